@@ -1,0 +1,14 @@
+pub mod Words
+pub mod Trees
+pub mod WellFormed
+pub mod Mining
+pub mod Refusals
+pub mod LogBlock
+pub mod TreeBlock
+pub mod Holds
+pub mod Calls
+pub mod Listing
+pub mod EpisodeText
+pub mod Filling
+pub mod Recording
+pub mod Printed
