@@ -1,0 +1,16 @@
+pub mod Places
+pub mod Graphs
+pub mod Counting
+pub mod Partitions
+pub mod Choice
+pub mod ChoiceEnds
+pub mod Sequence
+pub mod Parallel
+pub mod RedoCodes
+pub mod Loop
+pub mod LoopMaximal
+pub mod Taken
+pub mod PassedOver
+pub mod Rows
+pub mod WholeBody
+pub mod GivenUp

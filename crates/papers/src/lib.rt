@@ -1,0 +1,1 @@
+// No code: the definitions of the papers and what is proved of them.
