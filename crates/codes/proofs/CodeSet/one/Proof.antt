@@ -1,0 +1,19 @@
+use mathlib.Core.Path.{ap, _∙_}
+use mathlib.Core.Bool.{Bool, _||_, _&&_}
+use lib.Dec.{eqb, ltb}
+use Rattle.codes.proofs.BitLaws.{has-zero}
+use borrow.Author.Needs.{needs}
+use Rattle.codes.proofs.CodeSet.one.Statement.{statement}
+use Rattle.codes.proofs.CodeSet.one.Tie as tie
+use Rattle.codes.proofs.CodeSet.one.Reads as reads
+use Rattle.codes.proofs.CodeSet.one.Lts as lts
+use Rattle.codes.proofs.CodeSet.with.Reads as with-reads
+
+with-requires : tie.Need-with-requires
+with-requires c κs = search needs
+
+returns : tie.Need-returns
+returns c i = c .with .ensures i ∙ ap (λ (t : Bool). t || (ltb (c .before .args .c) 32 && eqb i (c .before .args .c))) (has-zero i)
+
+pub one-spec : {M : Type 1} → statement M
+one-spec = tie.close (tie.spec with-requires returns)

@@ -1,0 +1,12 @@
+use Rattle.codes.proofs.BitLaws.{trailing-least}
+use Rattle.codes.proofs.CodeSet.smallest.Statement.{statement}
+use Rattle.codes.proofs.CodeSet.smallest.Tie as tie
+use Rattle.codes.proofs.CodeSet.smallest.Reads as reads
+use Rattle.codes.proofs.CodeSet.smallest.Lts as lts
+
+-- src/lib.rt:73:5
+returns : tie.Need-returns
+returns c = trailing-least 32 (c .before .args .self .bits)
+
+pub smallest-spec : {M : Type 1} → statement M
+smallest-spec = tie.close (tie.spec returns)

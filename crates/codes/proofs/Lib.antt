@@ -1,0 +1,5 @@
+pub mod BitLaws
+pub mod AnyLaws
+pub mod CountLaws
+pub mod LowestLaws
+pub mod ListedLaws
