@@ -1,0 +1,67 @@
+use native.Mathlib.Omega.{arith}
+use Rattle.trees.proofs.Rules.{after-upto}
+use Rattle.trees.proofs.CheckingLaws.{formed-broken, formed-after, formed-here}
+use borrow.Author.Needs.{needs}
+use Rattle.trees.proofs.formed.Statement.{statement}
+use Rattle.trees.proofs.formed.Tie as tie
+
+none-requires : tie.Need-none-requires
+none-requires c κs = search needs
+
+node-requires : tie.Need-node-requires
+node-requires c κs = search needs
+
+enum-known-root : tie.Need-enum-known-root
+enum-known-root c = search needs
+
+enum-told : tie.Need-enum-told
+enum-told c = search needs
+
+returns : tie.Need-returns
+returns c = formed-broken _ _ (c .before .before .before .none .ensures) _ (c .before .before .node .ensures) (c .enum-told .given .1)
+
+mul-end : tie.Need-mul-end
+mul-end c = omega (arith, after-upto _ (c .before .root .given .1) (c .before .before .before .node .ensures .after))
+
+sub-first-set : tie.Need-sub-first-set
+sub-first-set c = omega (arith, after-upto _ (c .before .root .given .1) (c .before .before .before .node .ensures .after))
+
+part-first-set-start : tie.Need-part-first-set-start
+part-first-set-start c = omega (arith, after-upto _ (c .before .root .given .1) (c .before .before .before .node .ensures .after))
+
+part-first-set-end : tie.Need-part-first-set-end
+part-first-set-end c = search needs
+
+first-set-requires : tie.Need-first-set-requires
+first-set-requires c κs = search needs
+
+sub-if1 : tie.Need-sub-if1
+sub-if1 c = omega (arith, after-upto _ (c .before .before .before .root .given .1) (c .before .before .before .before .before .node .ensures .after))
+
+returns-2 : tie.Need-returns-2
+returns-2 c =
+    let n = c .before .before .before .before .before .before in
+    formed-after _ _ (n .before .none .ensures) _ (n .node .ensures) _ _ (c .before .before .before .before .root .given .1) _ (c .before .first-set .ensures) (c .if1 .taken)
+
+returns-3 : tie.Need-returns-3
+returns-3 c =
+    let n = c .before .before .before .before .before .before in
+    formed-here _ _ (n .before .none .ensures) _ (n .node .ensures) _ _ (c .before .before .before .before .root .given .1) _ (c .before .first-set .ensures) (c .if1 .left)
+
+pub formed-spec : {M : Type 1} → statement M
+formed-spec =
+    tie.close
+    (tie.spec
+    none-requires
+    node-requires
+    enum-known-root
+    enum-told
+    returns
+    mul-end
+    sub-first-set
+    part-first-set-start
+    part-first-set-end
+    first-set-requires
+    sub-if1
+    returns-2
+    returns-3)
