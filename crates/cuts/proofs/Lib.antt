@@ -1,0 +1,4 @@
+pub mod OrderLaws
+pub mod LoopLaws
+pub mod RedoLaws
+pub mod CutLaws

@@ -1,0 +1,4 @@
+pub mod TableLaws
+pub mod ReachLaws
+pub mod JoinLaws
+pub mod SweepLaws

@@ -1,0 +1,43 @@
+-- What the parts say, what joins two codes, and how a code joins parts.
+use mathlib.Core.Path.{_≡_}
+use mathlib.Core.List.{List, [], _∷_, _++_}
+use mathlib.Core.Bool.{Bool, not, _||_, _&&_, Bool·beq}
+use Prim.Native.Nat.{ℕ, _≤_}
+use lib.Dec.{eqb}
+use lib.Bits.{bitAnd, bitOr}
+use lib.ListN.{take}
+use Rattle.rules.specs.Words.{pick, each}
+use Rattle.rules.specs.Mining.{components}
+use Rattle.codes.specs.Bits.{listed}
+use Rattle.graphs.specs.Edges.{edgeOf}
+use Rattle.tables.specs.declared.Parts.{Parts}
+use Rattle.tables.specs.declared.Bond.{Bond}
+use Rattle.tables.specs.declared.Bond.the-variants.{Either, Alike, NotBoth}
+
+-- the sets of some parts, in order
+unfoldable pub setsOf : Parts → List ℕ
+setsOf p = take (p .n) (p .sets)
+
+-- the parts as the rules have them
+unfoldable pub partsOf : Parts → List (List ℕ)
+partsOf p = each (listed 32) (setsOf p)
+
+-- two codes are joined, by the edge from one to the other and the edge back
+abbrev pub bonded : Bond → Bool → Bool → Bool
+bonded Either to back = to || back
+bonded Alike to back = Bool·beq to back
+bonded NotBoth to back = not (to && back)
+
+-- the set has a code of the row
+unfoldable pub meets : ℕ → ℕ → Bool
+meets row p = not (eqb (bitAnd p row) 0)
+
+-- the sets that meet the row put into one, and the others after it
+abbrev pub joinOn : ℕ → ℕ → List ℕ → List ℕ → List ℕ
+joinOn row whole others [] = whole ∷ others
+joinOn row whole others (p ∷ ps) = pick (meets row p) (joinOn row (bitOr whole p) others ps) (joinOn row whole (others ++ (p ∷ [])) ps)
+
+-- the components of the codes of a set, where cols has the edges the other way
+pub record Components (rows cols : List ℕ) (bond : Bond) (within : ℕ) (r : Parts) : Type 0 where
+  pub few : r .n ≤ 32
+  pub parts : partsOf r ≡ components (λ a b. bonded bond (edgeOf rows a b) (edgeOf cols a b)) (listed 32 within)
