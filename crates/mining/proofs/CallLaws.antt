@@ -1,0 +1,110 @@
+-- The call: its refusals in their order, and what an accepted one leaves.
+use mathlib.Core.Path.{_≡_, sym, _∙_, ap, subst}
+use mathlib.Core.List.{List, _++_, append-nil}
+use Prim.Native.Nat.{ℕ, zero, suc, _+_, _-_, _%_, _≤_, _<_}
+use native.Mathlib.Nat.{zero-add}
+use native.Mathlib.Omega.{arith}
+use lib.ListN.{length, drop, drop-of-length-le}
+use borrow.Author.Tests.{lt-ltb, le-ltb, lt-leb, le-leb, eq-eqb, ne-eqb}
+use Rattle.rules.specs.Words.{zeros}
+use Rattle.rules.specs.Trees.{Tree, size}
+use Rattle.rules.specs.Mining.{Log, mined}
+use Rattle.rules.specs.LogBlock.{sealed}
+use Rattle.rules.specs.TreeBlock.{entries, treeBlock}
+use Rattle.rules.specs.Calls.{told, after, cleared, logSound, mining, treeOf, MineSays}
+use Rattle.rules.specs.declared.Answer.{Answer}
+use Rattle.rules.specs.declared.Answer.the-variants.{Gives, Refused}
+use Rattle.rules.proofs.Occurring.{Below}
+use Rattle.rules.proofs.MinedTree.{mined-fits}
+use Rattle.views.specs.declared.View.{View}
+use Rattle.views.specs.Sublogs.{Sight, shown, sight, sublog, Tight}
+use Rattle.views.specs.Passes.{rootSight}
+use Rattle.views.proofs.TightLaws.{root-tight, root-tree}
+use Rattle.mining.specs.Writing.{laid}
+use Rattle.mining.specs.Plans.{Ready}
+
+-- ---- the refusals, by the tests that lead to each
+
+module _ (log out work : List ℕ) where
+  pub mining-empty : length log ≡ 0 → mining 1 log out work ≡ Refused 1 0
+  unfolding mining
+  mining-empty h = simp (eq-eqb _ _ h)
+
+  module _ (z : length log ≡ 0 → ⊥) where
+    pub mining-long : 8192 < length log → mining 1 log out work ≡ Refused 1 0
+    unfolding mining
+    mining-long h = simp (ne-eqb _ _ z, lt-ltb _ _ h)
+
+    module _ (s : length log ≤ 8192) where
+      pub mining-ragged : (length log % 512 ≡ 0 → ⊥) → mining 1 log out work ≡ Refused 1 0
+      unfolding mining
+      mining-ragged h = simp (ne-eqb _ _ z, le-ltb _ _ s, ne-eqb _ _ h)
+
+      module _ (m : length log % 512 ≡ 0) where
+        pub mining-out : length out < 512 → mining 1 log out work ≡ Refused 2 0
+        unfolding mining
+        mining-out h = simp (ne-eqb _ _ z, le-ltb _ _ s, eq-eqb _ _ m, lt-leb _ _ h)
+
+        module _ (o : 512 ≤ length out) where
+          pub mining-work : length work < 16384 → mining 1 log out work ≡ Refused 3 0
+          unfolding mining
+          mining-work h = simp (ne-eqb _ _ z, le-ltb _ _ s, eq-eqb _ _ m, le-leb _ _ o, lt-leb _ _ h)
+
+          pub mining-log : 16384 ≤ length work → mining 1 log out work ≡ logSound 1 log
+          unfolding mining
+          mining-log h = simp (ne-eqb _ _ z, le-ltb _ _ s, eq-eqb _ _ m, le-leb _ _ o, le-leb _ _ h)
+
+  -- a refusal writes nothing
+  pub refused-says : (number place : ℕ) → mining 1 log out work ≡ Refused number place → MineSays 1 log out work (Refused number place) out work
+  refused-says number place e =
+      record {
+        answer = sym (ap (λ (a : Answer). told a (size (treeOf 1 log))) e);
+        block = sym (ap (λ (a : Answer). after a (treeBlock (treeOf 1 log) ++ drop 512 out) out) e);
+        memory = sym (ap (λ (a : Answer). after a (cleared 16384 work) work) e);
+      }
+
+  -- the log's own refusal is handed on
+  pub handed-says : (r : Answer) → mining 1 log out work ≡ logSound 1 log → r ≡ logSound 1 log → (number place : ℕ) → r ≡ Refused number place → MineSays 1 log out work r out work
+  handed-says r m call number place e = rw e (refused-says number place (m ∙ sym call ∙ e))
+
+  pub gives-says : (end : ℕ) → mining 1 log out work ≡ Gives end → (n : ℕ) → n ≡ size (treeOf 1 log) → (out′ work′ : List ℕ) → out′ ≡ treeBlock (treeOf 1 log) ++ drop 512 out → work′ ≡ cleared 16384 work →
+      MineSays 1 log out work (Gives n) out′ work′
+  gives-says end e n f out′ work′ g h =
+      record {
+        answer = ap Gives f ∙ sym (ap (λ (a : Answer). told a (size (treeOf 1 log))) e);
+        block = g ∙ sym (ap (λ (a : Answer). after a (treeBlock (treeOf 1 log) ++ drop 512 out) out) e);
+        memory = h ∙ sym (ap (λ (a : Answer). after a (cleared 16384 work) work) e);
+      }
+
+-- ---- the root
+
+module _ (l : Log) (small : Below 32 l) (v : View) (sees : sight v ≡ rootSight 32 l) where
+  pub root-mined : mined 32 (sublog v l) ≡ mined 32 l
+  root-mined = ap (λ (s : Sight). mined 32 (shown s l)) sees ∙ root-tree 32 l small
+
+  pub root-ready : (tree : List ℕ) → length tree ≡ 512 → Ready l v tree 0
+  root-ready tree long =
+      record {
+        tight = subst (λ (s : Sight). Tight 32 s l) (sym sees) (root-tight 32 l small);
+        long = long;
+        room = omega (arith, ap size root-mined, mined-fits 32 l small (omega arith));
+      }
+
+-- ---- the block
+
+pub clear-whole : (b : List ℕ) → length b ≡ 512 → zeros 512 ++ drop 512 b ≡ zeros 512
+clear-whole b h = ap (λ (z : List ℕ). zeros 512 ++ z) (drop-of-length-le b {i = 512} (omega arith)) ∙ append-nil (zeros 512)
+
+drop-zeros : (k n : ℕ) → drop k (zeros n) ≡ zeros (n - k)
+unfolding zeros
+drop-zeros zero n = let e : n ≡ n - 0 = omega arith in ap zeros e
+drop-zeros (suc k) zero = let e : zero ≡ zero - suc k = omega arith in ap zeros e
+drop-zeros (suc k) (suc n) = let e : n - k ≡ suc n - suc k = omega arith in drop-zeros k n ∙ ap zeros e
+
+-- a tree written into zeros and sealed is the tree's block
+pub block-is : (t u : Tree) (z b new : List ℕ) → t ≡ u → z ≡ zeros 512 → b ≡ laid 0 (entries t) z → new ≡ sealed b → new ≡ treeBlock u
+unfolding treeBlock
+block-is t u z b new e f g h =
+    h ∙ ap sealed (g ∙ ap (λ (x : List ℕ). laid 0 (entries t) x) f
+    ∙ ap (λ (x : List ℕ). entries t ++ x) (ap (λ (k : ℕ). drop k (zeros 512)) (zero-add (length (entries t))) ∙ drop-zeros (length (entries t)) 512))
+    ∙ ap (λ (x : Tree). sealed (entries x ++ zeros (512 - length (entries x)))) e

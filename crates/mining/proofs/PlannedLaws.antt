@@ -1,0 +1,140 @@
+-- The plan of a view, by the tests that lead to it.
+use mathlib.Core.Path.{_≡_, refl, sym, _∙_, ap, subst}
+use mathlib.Core.Logic.{_⊎_, inl, inr, ⊎-elim}
+use mathlib.Core.List.{List, [], _∷_}
+use mathlib.Core.Bool.{Bool, true, false, true≢false}
+use Prim.Native.Nat.{ℕ, _^_, _≤_, _<_}
+use native.Mathlib.Nat.{pos-of-ne-zero}
+use native.Mathlib.Omega.{arith}
+use lib.Dec.{eqb}
+use lib.ListN.{length}
+use lib.Count.{trailingZeros}
+use borrow.Author.Tests.{eqb-true}
+use Rattle.rules.specs.Words.{pick, keep, from}
+use Rattle.rules.specs.Trees.{Op, choice, sequence, parallel, loop}
+use Rattle.rules.specs.Mining as mining
+use Rattle.rules.specs.Mining.{Log, Rel, Shape, nothing, single, flower, cut, graph, shape, headOf, orElse, cutOr, occurring}
+use Rattle.rules.specs.TreeBlock.{kindOf}
+use Rattle.rules.proofs.ListLaws.{Has, has-keep}
+use Rattle.rules.proofs.GraphLaws.{edge-in}
+use Rattle.codes.specs.Bits.{has, listed}
+use Rattle.codes.proofs.BitLaws.{has-zero}
+use Rattle.codes.proofs.LowestLaws.{lowest-is}
+use Rattle.graphs.specs.declared.Graph.{Graph}
+use Rattle.graphs.specs.Edges.{edgeOf, meant}
+use Rattle.tables.specs.Joined.{setsOf, partsOf}
+use Rattle.cuts.specs.declared.Cut.{Cut}
+use Rattle.cuts.specs.Cuts.{Inside, cutElse, cutShape, CutOf}
+use Rattle.views.specs.declared.View.{View}
+use Rattle.views.specs.Sublogs.{sight, sublog, Tight}
+use Rattle.views.specs.Passes.{drawn}
+use Rattle.views.proofs.TightLaws.{tight-graph}
+use Rattle.mining.specs.Plans.{lone, baseShape, Planned}
+use Rattle.mining.proofs.PlanLaws.{plan-silent, plan-flower, plan-rest}
+
+-- a set that is not empty has a code
+some-code : (x : ℕ) → x < 2 ^ 32 → (x ≡ 0 → ⊥) → (c : ℕ) × (has x c ≡ true)
+some-code x h z = (trailingZeros 32 x, lowest-is 32 x (pos-of-ne-zero z) h .1)
+
+-- ---- a cut is no base case
+
+isNothing : Shape → Bool
+isNothing nothing = true
+isNothing (single a) = false
+isNothing (flower cs) = false
+isNothing (cut o ps) = false
+
+or-something : (o : Op) (ps : List (List ℕ)) (s : Shape) → isNothing s ≡ false → isNothing (orElse o ps s) ≡ false
+unfolding orElse isNothing
+or-something o [] s e = e
+or-something o (p ∷ []) s e = e
+or-something o (p ∷ q ∷ ps) s e = refl
+
+cut-something : (g : mining.Graph) (s : Shape) → isNothing s ≡ false → isNothing (cutOr g s) ≡ false
+unfolding cutOr
+cut-something g s e = or-something choice _ _ (or-something sequence _ _ (or-something parallel _ _ (or-something loop _ s e)))
+
+-- a cut as code has it: a flower for kind 0, else the cut of an operator of that kind
+cut-kinds : (k : ℕ) (cs : List ℕ) (ps : List (List ℕ)) (b0 b3 b4 b5 b6 : Bool) → eqb k 0 ≡ b0 → eqb k 3 ≡ b3 → eqb k 4 ≡ b4 → eqb k 5 ≡ b5 → eqb k 6 ≡ b6 → (z : Shape) →
+    pick b0 (flower cs) (pick b3 (cut choice ps) (pick b4 (cut sequence ps) (pick b5 (cut parallel ps) (pick b6 (cut loop ps) nothing)))) ≡ z → isNothing z ≡ false →
+    ((k ≡ 0) × (z ≡ flower cs)) ⊎ ((o : Op) × (kindOf o ≡ k) × (z ≡ cut o ps))
+unfolding isNothing
+cut-kinds k cs ps true b3 b4 b5 b6 e0 e3 e4 e5 e6 z e n = inl (eqb-true k 0 e0, sym e)
+cut-kinds k cs ps false true b4 b5 b6 e0 e3 e4 e5 e6 z e n = inr (choice, sym (eqb-true k 3 e3), sym e)
+cut-kinds k cs ps false false true b5 b6 e0 e3 e4 e5 e6 z e n = inr (sequence, sym (eqb-true k 4 e4), sym e)
+cut-kinds k cs ps false false false true b6 e0 e3 e4 e5 e6 z e n = inr (parallel, sym (eqb-true k 5 e5), sym e)
+cut-kinds k cs ps false false false false true e0 e3 e4 e5 e6 z e n = inr (loop, sym (eqb-true k 6 e6), sym e)
+cut-kinds k cs ps false false false false false e0 e3 e4 e5 e6 z e n = absurd (true≢false (ap isNothing e ∙ n))
+
+kind-big : (o : Op) → 3 ≤ kindOf o
+kind-big choice = omega arith
+kind-big sequence = omega arith
+kind-big parallel = omega arith
+kind-big loop = omega arith
+
+module _ (l : Log) (v : View) where
+  abbrev codesOf : List ℕ
+  codesOf = listed 32 (v .keep .bits)
+
+  -- a plan of a kind below 3
+  based : (kind : ℕ) (sets : List ℕ) → kind < 3 → (Tight 32 (sight v) l → shape 32 (sublog v l) ≡ baseShape kind codesOf) →
+      Planned l v (record { kind = kind; n = 0; sets = sets })
+  based kind sets h f =
+      record { few = omega arith; room = omega arith; base = λ k _. f k; cuts = λ k big. absurd (omega arith) }
+
+  module _ (sets : List ℕ) where
+    pub planned-silent : v .keep .bits ≡ 0 → Planned l v (record { kind = 1; n = 0; sets = sets })
+    planned-silent z = based 1 sets (omega arith) (λ k. plan-silent 32 (sight v) l k (λ c. ap (λ (x : ℕ). has x c) z ∙ has-zero c))
+
+    module _ (small : v .keep .bits < 2 ^ 32) (some : v .keep .bits ≡ 0 → ⊥) where
+      pub planned-flower : v .bare ≡ true → Planned l v (record { kind = 0; n = 0; sets = sets })
+      planned-flower e =
+          based 0 sets (omega arith)
+          (λ k. let c = some-code (v .keep .bits) small some in unfold listed in plan-flower 32 (sight v) l k (c .0) (c .1) e)
+
+  module _ (small : v .keep .bits < 2 ^ 32) (some : v .keep .bits ≡ 0 → ⊥) (full : v .bare ≡ false) (g : Graph)
+      (drew : meant g (v .keep .bits) ≡ drawn codesOf (sublog v l)) (t : Bool) (call : t ≡ lone (edgeOf (g .rows)) codesOf) where
+    graph-is : Tight 32 (sight v) l → meant g (v .keep .bits) ≡ graph 32 (sublog v l)
+    unfolding listed
+    graph-is k = drew ∙ tight-graph 32 (sight v) l k
+
+    edge-is : Tight 32 (sight v) l → (λ a b. edgeOf (g .rows) a b) ≡ graph 32 (sublog v l) .edge
+    unfolding meant
+    edge-is k = ap (λ (x : mining.Graph). x .edge) (graph-is k)
+
+    rest : Tight 32 (sight v) l → shape 32 (sublog v l) ≡ pick t (single (headOf codesOf)) (cutOr (meant g (v .keep .bits)) (flower codesOf))
+    unfolding listed
+    rest k =
+        let c = some-code (v .keep .bits) small some in
+        plan-rest 32 (sight v) l k (c .0) (c .1) full
+        ∙ (λ i. pick ((ap (λ (e : Rel). lone e codesOf) (sym (edge-is k)) ∙ sym call) i) (single (headOf codesOf)) (cutOr (sym (graph-is k) i) (flower codesOf)))
+
+    pub planned-leaf : t ≡ true → (sets : List ℕ) → Planned l v (record { kind = 2; n = 0; sets = sets })
+    planned-leaf e sets =
+        based 2 sets (omega arith) (λ k. rest k ∙ ap (λ (b : Bool). pick b (single (headOf codesOf)) (cutOr (meant g (v .keep .bits)) (flower codesOf))) e)
+
+    inside : Tight 32 (sight v) l → Inside g (v .keep .bits)
+    inside k a b e =
+        let h : graph 32 (sublog v l) .edge a b ≡ true = sym (λ i. edge-is k i a b) ∙ e in
+        let q = edge-in 32 (sublog v l) a b h in
+        let kept : (c : ℕ) → Has c (occurring 32 (sublog v l)) → has (v .keep .bits) c ≡ true = λ c i. has-keep (has (v .keep .bits)) c (from 0 32) (subst (Has c) (k .occurs) i) .1 in
+        (kept a (q .0), kept b (q .1))
+
+    module _ (off : t ≡ false) (r : Cut) (c : CutOf g (v .keep .bits) r) (long : length (r .parts .sets) ≡ 32) where
+      found : Tight 32 (sight v) l → ((r .kind ≡ 0) × (shape 32 (sublog v l) ≡ flower codesOf)) ⊎ ((o : Op) × (kindOf o ≡ r .kind) × (shape 32 (sublog v l) ≡ cut o (partsOf (r .parts))))
+      unfolding cutShape cutElse isNothing
+      found k =
+          let e : shape 32 (sublog v l) ≡ cutOr (meant g (v .keep .bits)) (flower codesOf) =
+          rest k ∙ ap (λ (b : Bool). pick b (single (headOf codesOf)) (cutOr (meant g (v .keep .bits)) (flower codesOf))) off in
+          cut-kinds (r .kind) codesOf (partsOf (r .parts)) (eqb (r .kind) 0) (eqb (r .kind) 3) (eqb (r .kind) 4) (eqb (r .kind) 5) (eqb (r .kind) 6) refl refl refl refl refl
+          (shape 32 (sublog v l)) (c .shape (inside k) ∙ sym e) (ap isNothing e ∙ cut-something (meant g (v .keep .bits)) (flower codesOf) refl)
+
+      pub planned-cut : Planned l v (record { kind = r .kind; n = r .parts .n; sets = r .parts .sets })
+      unfolding partsOf setsOf
+      planned-cut =
+          record {
+            few = c .few;
+            room = omega (arith, c .few);
+            base = λ k h. ⊎-elim (λ z. z .1 ∙ ap (λ (n : ℕ). baseShape n codesOf) (sym (z .0))) (λ z. absurd (omega (arith, kind-big (z .0), z .1))) (found k);
+            cuts = λ k h. ⊎-elim (λ z. absurd (omega (arith, z .0))) (λ z. z) (found k);
+          }

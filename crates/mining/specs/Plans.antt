@@ -1,0 +1,47 @@
+-- What is made of a view's sublog: a base case, a flower or a cut.
+use mathlib.Core.Path.{_≡_}
+use mathlib.Core.List.{List, [], _∷_}
+use mathlib.Core.Bool.{Bool, false, not}
+use Prim.Native.Nat.{ℕ, _+_, _≤_, _<_}
+use lib.Dec.{eqb}
+use lib.ListN.{length, take}
+use Rattle.rules.specs.Words.{pick, each}
+use Rattle.rules.specs.Trees.{Op, Tree, silent, leaf, size}
+use Rattle.rules.specs.Mining.{Log, Rel, Shape, nothing, single, flower, cut, shape, headOf, flowerOf, mined}
+use Rattle.rules.specs.TreeBlock.{kindOf}
+use Rattle.rules.specs.Calls.{logSound}
+use Rattle.rules.specs.declared.Answer.the-variants.{Gives}
+use Rattle.codes.specs.Bits.{listed}
+use Rattle.views.specs.declared.View.{View}
+use Rattle.views.specs.Sublogs.{sight, sublog, Tight}
+use Rattle.mining.specs.declared.Plan.{Plan}
+
+-- one code, and it never follows itself
+abbrev pub lone : Rel → List ℕ → Bool
+lone e [] = false
+lone e (a ∷ []) = not (e a a)
+lone e (a ∷ b ∷ cs) = false
+
+-- the kinds below 3 and their codes: 1 silent, 2 a leaf, 0 a flower
+abbrev pub baseShape : ℕ → List ℕ → Shape
+baseShape kind cs = pick (eqb kind 1) nothing (pick (eqb kind 2) (single (headOf cs)) (flower cs))
+
+abbrev pub baseTree : ℕ → List ℕ → Tree
+baseTree kind cs = pick (eqb kind 1) silent (pick (eqb kind 2) (leaf (headOf cs)) (flowerOf cs))
+
+-- a tight view's plan is the shape of its sublog; from 3 on the kind is that of the cut's operator
+pub record Planned (l : Log) (v : View) (r : Plan) : Type 0 where
+  pub few : r .n ≤ 32
+  pub room : r .n ≤ length (r .sets)
+  pub base : Tight 32 (sight v) l → r .kind < 3 → shape 32 (sublog v l) ≡ baseShape (r .kind) (listed 32 (v .keep .bits))
+  pub cuts : Tight 32 (sight v) l → 3 ≤ r .kind → (o : Op) × (kindOf o ≡ r .kind) × (shape 32 (sublog v l) ≡ cut o (each (listed 32) (take (r .n) (r .sets))))
+
+-- a view that may be mined from an entry on: it is tight, and its tree ends by entry 127
+pub record Ready (l : Log) (v : View) (tree : List ℕ) (at : ℕ) : Type 0 where
+  pub tight : Tight 32 (sight v) l
+  pub long : length tree ≡ 512
+  pub room : at + size (mined 32 (sublog v l)) ≤ 127
+
+-- a log that no refusal of its own is due to
+abbrev pub SoundLog : List ℕ → Type 0
+SoundLog log = (end : ℕ) × (logSound 1 log ≡ Gives end)

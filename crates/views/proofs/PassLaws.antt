@@ -1,0 +1,78 @@
+-- A pass over a log: what each turn over a block's records and over the blocks keeps, whatever the pass adds up.
+use mathlib.Core.Path.{_≡_, sym, _∙_, ap}
+use mathlib.Core.List.{List, [], _∷_, _++_, append-nil}
+use mathlib.Core.Bool.{Bool, true, false, _||_}
+use Prim.Native.Nat.{ℕ, _+_, _-_, _<_, _≤_}
+use lib.ListN.{length}
+use Rattle.rules.specs.declared.Answer.{Answer}
+use Rattle.rules.specs.declared.Answer.the-variants.{Gives, Refused}
+use Rattle.rules.specs.Words.{any, part, each, flat}
+use Rattle.rules.specs.Mining as mining
+use Rattle.rules.specs.Mining.{Episode, Log, project}
+use Rattle.rules.specs.LogBlock.{frameAt, eventsAt, episodesAt, blockEpisodes, episodesFrom}
+use Rattle.rules.proofs.BoolLaws.{or-off, or-assoc}
+use Rattle.rules.proofs.ListLaws.{each-append, flat-append}
+use Rattle.blocks.proofs.EpisodeLaws.{episodes-end, episodes-stop, episodes-next, events-codes, blocks-episodes-end, blocks-episodes-next}
+use Rattle.views.specs.Sublogs.{Sight, emptyIf, pieces, piecesOf, shown, lacks, bareOf}
+use Rattle.views.specs.Passes.{joined, withPieces, someLacks}
+use Rattle.views.proofs.TrailLaws.{any-append, joined-nil, joined-append}
+
+-- `act` is what a log adds to what was added up before
+module _ {S : Type 0} (act : S → Log → S) (nil : (s : S) → act s [] ≡ s) (app : (s : S) (l m : Log) → act (act s l) m ≡ act s (l ++ m)) where
+  module _ (b : List ℕ) (at left : ℕ) (s all : S) (inv : all ≡ act s (episodesAt 1 left b at)) where
+    pub records-end : left ≤ 0 → s ≡ all
+    records-end h = sym (inv ∙ ap (act s) (episodes-end 1 b at left h) ∙ nil s)
+
+    module _ (r : Answer) (call : r ≡ frameAt 1 b at) (h : 0 < left) where
+      pub records-stop : (x y : ℕ) → r ≡ Refused x y → s ≡ all
+      records-stop x y e = sym (inv ∙ ap (act s) (episodes-stop 1 b at left r call h x y e) ∙ nil s)
+
+      pub records-next : (next : ℕ) → length b ≡ 512 → r ≡ Gives next → (u : S) → u ≡ act s (eventsAt b at next ∷ []) → all ≡ act u (episodesAt 1 (left - 1) b next)
+      records-next next l e u f =
+          inv ∙ ap (act s) (episodes-next 1 b at left r call h next e)
+          ∙ ap (λ (t : Episode). act s (t ∷ episodesAt 1 (left - 1) b next)) (events-codes b at next r l call e)
+          ∙ sym (app s (eventsAt b at next ∷ []) (episodesAt 1 (left - 1) b next))
+          ∙ ap (λ (z : S). act z (episodesAt 1 (left - 1) b next)) (sym f)
+
+  module _ (log : List ℕ) (base left : ℕ) (s all : S) (inv : all ≡ act s (episodesFrom 1 left log base)) where
+    pub blocks-end : left ≤ 0 → s ≡ all
+    blocks-end h = sym (inv ∙ ap (act s) (blocks-episodes-end 1 log base left h) ∙ nil s)
+
+    pub blocks-next : 0 < left → (u : S) → u ≡ act s (blockEpisodes 1 (part log base (base + 512 - base))) → all ≡ act u (episodesFrom 1 (left - 1) log (base + 512))
+    blocks-next h u f =
+        inv ∙ ap (act s) (blocks-episodes-next 1 log base left h)
+        ∙ sym (app s (blockEpisodes 1 (part log base (base + 512 - base))) (episodesFrom 1 (left - 1) log (base + 512)))
+        ∙ ap (λ (z : S). act z (episodesFrom 1 (left - 1) log (base + 512))) (sym f)
+
+-- ---- what the passes add up
+
+pub pieces-append : (s : Sight) (l m : Log) → piecesOf s l ++ piecesOf s m ≡ piecesOf s (l ++ m)
+pieces-append s l m =
+    sym (flat-append (each (pieces (s .kept) (s .breaks)) l) (each (pieces (s .kept) (s .breaks)) m))
+    ∙ ap flat (sym (each-append (pieces (s .kept) (s .breaks)) l m))
+
+pub pieces-one : (s : Sight) (t : Episode) → pieces (s .kept) (s .breaks) t ≡ piecesOf s (t ∷ [])
+pieces-one s t = sym (append-nil (pieces (s .kept) (s .breaks) t))
+
+pub graph-nil : (s : Sight) (g : mining.Graph) → withPieces s g [] ≡ g
+graph-nil s g = joined-nil g
+
+pub graph-append : (s : Sight) (g : mining.Graph) (l m : Log) → withPieces s (withPieces s g l) m ≡ withPieces s g (l ++ m)
+graph-append s g l m = joined-append g (piecesOf s l) (piecesOf s m) ∙ ap (joined g) (pieces-append s l m)
+
+pub lacks-nil : (s : Sight) (p : List ℕ) (t : Bool) → someLacks s p t [] ≡ t
+lacks-nil s p t = or-off t
+
+pub lacks-append : (s : Sight) (p : List ℕ) (t : Bool) (l m : Log) → someLacks s p (someLacks s p t l) m ≡ someLacks s p t (l ++ m)
+lacks-append s p t l m =
+    or-assoc t (any (lacks p) (piecesOf s l)) (any (lacks p) (piecesOf s m))
+    ∙ ap (_||_ t) (sym (any-append (lacks p) (piecesOf s l) (piecesOf s m)) ∙ ap (any (lacks p)) (pieces-append s l m))
+
+-- the empty episode has none of the part's codes
+pub bare-empty : (s : Sight) (p : List ℕ) (l : Log) → s .bare ≡ true → true ≡ bareOf p l s
+unfolding shown project
+bare-empty s p l e = ap (λ (b : Bool). any (lacks p) (emptyIf b ++ piecesOf s l)) (sym e)
+
+pub bare-full : (s : Sight) (p : List ℕ) (l : Log) → s .bare ≡ false → someLacks s p false l ≡ bareOf p l s
+unfolding shown
+bare-full s p l e = ap (λ (b : Bool). any (lacks p) (emptyIf b ++ piecesOf s l)) (sym e)

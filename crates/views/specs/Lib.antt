@@ -1,0 +1,2 @@
+pub mod Sublogs
+pub mod Passes
