@@ -1,0 +1,4 @@
+pub mod Entries
+pub mod Children
+pub mod Nodes
+pub mod Verdicts
