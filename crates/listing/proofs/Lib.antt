@@ -1,0 +1,3 @@
+pub mod Laws
+pub mod Decimal
+pub mod Lines

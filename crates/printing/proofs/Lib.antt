@@ -1,0 +1,4 @@
+pub mod GivenLaws
+pub mod LineLaws
+pub mod TextLaws
+pub mod MinedLaws
