@@ -1,0 +1,48 @@
+//! Compares the plain implementation with the fast one and, with the feature `library`, with the proved library, on
+//! inputs that are the same on every run. The last line counts the cases; the exit status is 1 if one failed.
+//!
+//!     compare [CALL]      CALL is reading, adding, mining, checking or judging; all of them if it is left out
+
+mod adding;
+mod judging;
+mod mining;
+mod reading;
+mod tally;
+mod trees;
+mod trial;
+
+use std::process::ExitCode;
+use tally::Tally;
+
+fn main() -> ExitCode {
+    let wanted = std::env::args().nth(1).unwrap_or_default();
+    let mut tally = Tally::new();
+    for (name, suite) in SUITES.into_iter().filter(|(name, _)| name.starts_with(&wanted)) {
+        let before = tally.cases;
+        suite(&mut tally);
+        println!("{name}: {} cases", tally.cases - before);
+    }
+    tally.report(&wanted)
+}
+
+type Suite = fn(&mut Tally);
+
+const SUITES: [(&str, Suite); 17] = [
+    ("reading, every place of a block", reading::every_place),
+    ("reading, lengths and far places", reading::lengths),
+    ("adding, every length of episode", adding::every_length),
+    ("adding, blocks filled up", adding::filled_up),
+    ("adding, two faults at once", adding::two_faults),
+    ("mining, every log of up to three short episodes", mining::small_logs),
+    ("mining, logs of trees and of any codes", mining::some_logs),
+    ("mining, logs of trees with a few events changed", mining::near_trees),
+    ("mining, full logs", mining::full_logs),
+    ("mining, the measured logs", mining::measured_logs),
+    ("mining, two faults at once", mining::two_faults),
+    ("checking, sound and damaged trees", trees::sound_and_damaged),
+    ("checking, every byte changed", trees::every_byte),
+    ("judging, small trees and every short episode", judging::small_trees),
+    ("judging, large trees and every length of episode", judging::large_trees),
+    ("judging, the measured episodes", judging::measured_episodes),
+    ("judging, two faults at once", judging::two_faults),
+];

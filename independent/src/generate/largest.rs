@@ -1,0 +1,179 @@
+//! The largest inputs of several shapes: full logs with all 32 codes, and 63-event episodes on 127-node trees.
+
+use super::logs::largest_log;
+use super::random::Random;
+use super::trees::short_episode;
+use crate::log::{Episode, LONGEST_EPISODE};
+use crate::tree::{Operator, Tree};
+use Operator::{Choice, Loop, Parallel, Sequence};
+
+pub enum Task {
+    Mine { log: Vec<u8> },
+    Judge { tree: Tree, episode: Episode },
+}
+
+type Shape = (&'static str, fn() -> Task);
+
+/// The names of all shapes and how to make each.
+pub const SHAPES: [Shape; 20] = [
+    ("mine-balanced", || logs_of(balanced(Sequence, Choice, leaves()), Events::Doubled, 8)),
+    ("mine-balanced-parallel", || logs_of(balanced(Choice, Parallel, leaves()), Events::Doubled, 8)),
+    ("mine-sequence-loop-comb", || logs_of(sequence_loop_comb(), Events::Doubled, 10)),
+    ("mine-choice-sequence-comb", || logs_of(choice_sequence_comb(), Events::Doubled, 8)),
+    ("mine-flower", || logs_around(63)),
+    ("mine-flower-of-pairs", || logs_around(2)),
+    ("mine-sequence", || logs_of(flat(Sequence), Events::Once, 8)),
+    ("mine-skipped-steps", || logs_of(flat(Sequence), Events::Skipped, 8)),
+    ("mine-parallel", || logs_of(flat(Parallel), Events::Once, 8)),
+    ("mine-few-long-episodes", || logs_of(long_body(), Events::Once, 2)),
+    ("mine-one-event-episodes", || logs_of(flat(Choice), Events::Once, 8)),
+    ("judge-balanced", || judge_fit(balanced(Sequence, Choice, blossoms()))),
+    ("judge-balanced-parallel", || judge_fit(balanced(Sequence, Parallel, blossoms()))),
+    ("judge-sequence-comb", || judge_fit(comb(Sequence))),
+    ("judge-choice-comb", || judge_any(comb(Choice))),
+    ("judge-parallel-comb", || judge_any(comb(Parallel))),
+    ("judge-loop-comb", || judge_any(comb(Loop))),
+    ("judge-loops-of-one-code", || judge_one_code(loops_of_one_code())),
+    ("judge-flat-sequence", || judge_fit(among_silents(Sequence))),
+    ("judge-flat-loop", || judge_any(among_silents(Loop))),
+];
+
+pub fn task(name: &str) -> Option<Task> {
+    SHAPES.iter().find(|(shape, _)| *shape == name).map(|(_, make)| make())
+}
+
+/// What becomes of the events that a tree gives.
+#[derive(Clone, Copy)]
+enum Events {
+    Once,
+    /// Now and then one comes twice, which makes its leaf a flower.
+    Doubled,
+    /// Now and then one is missing.
+    Skipped,
+}
+
+fn logs_of(tree: Tree, events: Events, odds: usize) -> Task {
+    let next = |random: &mut Random| loop {
+        let plain = short_episode(random, &tree, odds);
+        let episode: Episode = plain.iter().flat_map(|&code| vec![code; times(random, events)]).collect();
+        if episode.len() <= LONGEST_EPISODE {
+            return episode;
+        }
+    };
+    Task::Mine { log: largest_log(&mut Random::seeded(61), next) }
+}
+
+fn times(random: &mut Random, events: Events) -> usize {
+    match events {
+        Events::Once => 1,
+        Events::Doubled => 1 + random.once_in(4) as usize,
+        Events::Skipped => 1 - random.once_in(8) as usize,
+    }
+}
+
+/// Logs in which each code is followed by one of the fifteen after it, round and round: no two codes follow each other
+/// both ways and every code starts and ends an episode, so there is no cut.
+fn logs_around(longest: usize) -> Task {
+    let next = |random: &mut Random| {
+        let mut code = random.below(32);
+        let mut episode = vec![code as u8];
+        for _ in 1..random.between(1, longest) {
+            code = (code + random.between(1, 15)) % 32;
+            episode.push(code as u8);
+        }
+        episode
+    };
+    Task::Mine { log: largest_log(&mut Random::seeded(62), next) }
+}
+
+fn leaves() -> Vec<Tree> {
+    (0..32).map(Tree::Activity).collect()
+}
+
+/// A leaf that may come any number of times: three nodes for a code, so 127 with 31 operators of two children.
+fn blossoms() -> Vec<Tree> {
+    leaves().into_iter().map(|leaf| Tree::Node(Loop, vec![Tree::Silent, leaf])).collect()
+}
+
+/// Two children everywhere, the two operators in turn, the first at the root.
+fn balanced(first: Operator, second: Operator, leaves: Vec<Tree>) -> Tree {
+    match <[Tree; 1]>::try_from(leaves) {
+        Ok([leaf]) => leaf,
+        Err(mut leaves) => {
+            let right = leaves.split_off(leaves.len() / 2);
+            Tree::Node(first, vec![balanced(second, first, leaves), balanced(second, first, right)])
+        }
+    }
+}
+
+fn flat(operator: Operator) -> Tree {
+    Tree::Node(operator, leaves())
+}
+
+/// One operator inside the other's first child, again and again.
+fn comb(operator: Operator) -> Tree {
+    blossoms().into_iter().reduce(|inner, leaf| Tree::Node(operator, vec![inner, leaf])).expect("32 leaves")
+}
+
+fn sequence_loop_comb() -> Tree {
+    let mut tree = Tree::Activity(30);
+    for level in 0..15 {
+        let again = Tree::Node(Loop, vec![tree, Tree::Activity(2 * level + 1)]);
+        tree = Tree::Node(Sequence, vec![Tree::Activity(2 * level), again]);
+    }
+    Tree::Node(Choice, vec![tree, Tree::Activity(31)])
+}
+
+fn choice_sequence_comb() -> Tree {
+    let mut tree = Tree::Activity(30);
+    for level in 0..15 {
+        let longer = Tree::Node(Sequence, vec![Tree::Activity(2 * level + 1), tree]);
+        tree = Tree::Node(Choice, vec![Tree::Activity(2 * level), longer]);
+    }
+    Tree::Node(Sequence, vec![tree, Tree::Activity(31)])
+}
+
+/// Thirty events for one body, so that two bodies and a redo nearly fill the longest record.
+fn long_body() -> Tree {
+    let pairs = (0..15).map(|pair| Tree::Node(Parallel, vec![Tree::Activity(2 * pair), Tree::Activity(2 * pair + 1)]));
+    let body = Tree::Node(Sequence, pairs.collect());
+    Tree::Node(Loop, vec![body, Tree::Activity(30), Tree::Activity(31)])
+}
+
+/// Sixty-three loops around each other and one code in the innermost: every place can follow every other.
+fn loops_of_one_code() -> Tree {
+    (0..63).fold(Tree::Activity(0), |inner, _| Tree::Node(Loop, vec![Tree::Silent, inner]))
+}
+
+/// One operator with 62 children: the 32 codes and silent leaves between most of them.
+fn among_silents(operator: Operator) -> Tree {
+    let mut children = Vec::new();
+    for (number, blossom) in blossoms().into_iter().enumerate() {
+        children.push(blossom);
+        if number < 30 {
+            children.push(Tree::Silent);
+        }
+    }
+    Tree::Node(operator, children)
+}
+
+/// An episode of a tree of blossoms, its events repeated until it is as long as one can be.
+fn judge_fit(tree: Tree) -> Task {
+    let mut random = Random::seeded(63);
+    let mut episode = short_episode(&mut random, &tree, 2);
+    while episode.len() < LONGEST_EPISODE {
+        let place = random.below(episode.len());
+        episode.insert(place, episode[place]);
+    }
+    Task::Judge { tree, episode }
+}
+
+fn judge_any(tree: Tree) -> Task {
+    let mut random = Random::seeded(64);
+    let episode = (0..LONGEST_EPISODE).map(|_| random.below(32) as u8).collect();
+    Task::Judge { tree, episode }
+}
+
+fn judge_one_code(tree: Tree) -> Task {
+    Task::Judge { tree, episode: vec![0; LONGEST_EPISODE] }
+}

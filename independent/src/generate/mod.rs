@@ -1,0 +1,7 @@
+//! Inputs made by numbers that only look random: trees, episodes, logs, and damage done to them.
+
+pub mod damage;
+pub mod largest;
+pub mod logs;
+pub mod random;
+pub mod trees;
