@@ -3,7 +3,7 @@ mod rows;
 mod setup;
 mod text;
 
-use crate::rows::Tally;
+use tally::Tally;
 
 // The lines one after the other; a log of `size` bytes and an episode of `events` go from line to line.
 fn run(sheet: &[u8], log: &mut [u8], episode: &mut [u8]) -> Tally {
@@ -16,7 +16,7 @@ fn run(sheet: &[u8], log: &mut [u8], episode: &mut [u8]) -> Tally {
         let line = &sheet[at..end];
         size = setup::log(line, log, size);
         events = setup::episode(line, episode, events);
-        t = t.row(line, log, size, setup::front(episode, events));
+        t = rows::row(t, line, log, size, setup::front(episode, events));
         if end == sheet.len() {
             return t;
         }

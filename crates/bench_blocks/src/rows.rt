@@ -1,12 +1,7 @@
 // Rows: a call is made and its answer compared with what the line says; number 0 stands for a call that gives the place.
 use crate::text;
 use rules::Answer;
-
-// How many rows came out as they should.
-pub struct Tally {
-    pub ok: u64,
-    pub wrong: u64,
-}
+use tally::Tally;
 
 fn is(r: Answer, number: usize, place: usize) -> bool {
     match r {
@@ -108,42 +103,11 @@ fn is_row(line: &[u8]) -> bool {
     text::begins(line, b"add ")
 }
 
-impl Tally {
-    pub fn new() -> Self {
-        Self { ok: 0, wrong: 0 }
+// Runs a line that is a row.
+pub fn row(t: Tally, line: &[u8], log: &mut [u8], size: usize, episode: &[u8]) -> Tally {
+    if !is_row(line) {
+        return t;
     }
-
-    // Prints a row and counts it.
-    fn note(mut self, line: &[u8], ok: bool) -> Self {
-        io::write_all(1, b"row ");
-        io::write_all(1, line);
-        if ok {
-            io::write_all(1, b" ok\n");
-            if self.ok < 1000 {
-                self.ok += 1;
-            }
-        } else {
-            io::write_all(1, b" wrong\n");
-            if self.wrong < 1000 {
-                self.wrong += 1;
-            }
-        }
-        self
-    }
-
-    // Runs a line that is a row.
-    pub fn row(self, line: &[u8], log: &mut [u8], size: usize, episode: &[u8]) -> Self {
-        if !is_row(line) {
-            return self;
-        }
-        let ok = right(line, log, size, episode);
-        self.note(line, ok)
-    }
-
-    pub fn total(self) {
-        io::print_decimal(1, self.ok);
-        io::write_all(1, b" rows ok, ");
-        io::print_decimal(1, self.wrong);
-        io::write_all(1, b" wrong\n");
-    }
+    let ok = right(line, log, size, episode);
+    t.row(line, ok)
 }

@@ -3,13 +3,14 @@ mod sheet;
 mod trees_of;
 
 use crate::sheet::Expected;
-use crate::sheet::Tally;
+use tally::Tally;
 
 // loop(sequence(a, b), c) fits ab and abcabcab,
 fn j1(t: Tally) -> Tally {
     let tree = trees_of::m11();
-    let t = t.judged(b"J1 ab", &tree, b"\x00\x01", Expected::Fits);
-    t.judged(
+    let t = sheet::judged(t, b"J1 ab", &tree, b"\x00\x01", Expected::Fits);
+    sheet::judged(
+        t,
         b"J1 abcabcab",
         &tree,
         b"\x00\x01\x02\x00\x01\x02\x00\x01",
@@ -20,29 +21,31 @@ fn j1(t: Tally) -> Tally {
 // not abab, abc or e.
 fn j1_not(t: Tally) -> Tally {
     let tree = trees_of::m11();
-    let t = t.judged(b"J1 abab", &tree, b"\x00\x01\x00\x01", Expected::Misfit);
-    let t = t.judged(b"J1 abc", &tree, b"\x00\x01\x02", Expected::Misfit);
-    t.judged(b"J1 e", &tree, b"", Expected::Misfit)
+    let t = sheet::judged(t, b"J1 abab", &tree, b"\x00\x01\x00\x01", Expected::Misfit);
+    let t = sheet::judged(t, b"J1 abc", &tree, b"\x00\x01\x02", Expected::Misfit);
+    sheet::judged(t, b"J1 e", &tree, b"", Expected::Misfit)
 }
 
 // loop(sequence(a, b), loop(silent, c)): an empty redo lets two bodies touch.
 fn j2(t: Tally) -> Tally {
     let tree = trees_of::j2();
-    let t = t.judged(b"J2 abab", &tree, b"\x00\x01\x00\x01", Expected::Fits);
-    let t = t.judged(
+    let t = sheet::judged(t, b"J2 abab", &tree, b"\x00\x01\x00\x01", Expected::Fits);
+    let t = sheet::judged(
+        t,
         b"J2 abccab",
         &tree,
         b"\x00\x01\x02\x02\x00\x01",
         Expected::Fits,
     );
-    t.judged(b"J2 aab", &tree, b"\x00\x00\x01", Expected::Misfit)
+    sheet::judged(t, b"J2 aab", &tree, b"\x00\x00\x01", Expected::Misfit)
 }
 
 // A 63-event episode is judged, a 64-event one gets 10.
 fn j3(t: Tally) -> Tally {
     let tree = trees_of::m11();
-    let t = t.judged(b"J3 63 events", &tree, &[0u8; 63], Expected::Misfit);
-    t.judged(
+    let t = sheet::judged(t, b"J3 63 events", &tree, &[0u8; 63], Expected::Misfit);
+    sheet::judged(
+        t,
         b"J3 64 events",
         &tree,
         &[0u8; 64],
@@ -56,15 +59,16 @@ fn j3(t: Tally) -> Tally {
 // choice(a, parallel(b, c))
 fn kinds(t: Tally) -> Tally {
     let tree = trees_of::mixed();
-    let t = t.judged(b"choice a", &tree, b"\x00", Expected::Fits);
-    let t = t.judged(b"parallel bc", &tree, b"\x01\x02", Expected::Fits);
-    t.judged(b"parallel cb", &tree, b"\x02\x01", Expected::Fits)
+    let t = sheet::judged(t, b"choice a", &tree, b"\x00", Expected::Fits);
+    let t = sheet::judged(t, b"parallel bc", &tree, b"\x01\x02", Expected::Fits);
+    sheet::judged(t, b"parallel cb", &tree, b"\x02\x01", Expected::Fits)
 }
 
 fn kinds_not(t: Tally) -> Tally {
     let tree = trees_of::mixed();
-    let t = t.judged(b"choice ab", &tree, b"\x00\x01", Expected::Misfit);
-    t.judged(
+    let t = sheet::judged(t, b"choice ab", &tree, b"\x00\x01", Expected::Misfit);
+    sheet::judged(
+        t,
         b"a code that no leaf has",
         &tree,
         b"\x00\x05",
@@ -74,7 +78,8 @@ fn kinds_not(t: Tally) -> Tally {
 
 // 8 for the length, 3, 8 for the check: each where the next one is due too,
 fn blocks_refused(t: Tally) -> Tally {
-    let t = t.cramped(
+    let t = sheet::cramped(
+        t,
         b"8 before 3",
         &trees_of::short(),
         b"\x00\x01",
@@ -83,7 +88,8 @@ fn blocks_refused(t: Tally) -> Tally {
             place: 0,
         },
     );
-    let t = t.cramped(
+    let t = sheet::cramped(
+        t,
         b"3 before 8",
         &trees_of::unsealed(),
         b"\x00\x01",
@@ -92,7 +98,8 @@ fn blocks_refused(t: Tally) -> Tally {
             place: 0,
         },
     );
-    t.judged(
+    sheet::judged(
+        t,
         b"8 before 9",
         &trees_of::unsealed(),
         b"\x00\x01",
@@ -106,7 +113,8 @@ fn blocks_refused(t: Tally) -> Tally {
 // and then 9, 10, 11.
 fn episodes_refused(t: Tally) -> Tally {
     let tree = trees_of::m11();
-    let t = t.judged(
+    let t = sheet::judged(
+        t,
         b"9 before 10",
         &trees_of::unformed(),
         &[0u8; 64],
@@ -115,7 +123,8 @@ fn episodes_refused(t: Tally) -> Tally {
             place: 0,
         },
     );
-    let t = t.judged(
+    let t = sheet::judged(
+        t,
         b"10 before 11",
         &tree,
         &[32u8; 64],
@@ -124,7 +133,8 @@ fn episodes_refused(t: Tally) -> Tally {
             place: 0,
         },
     );
-    t.judged(
+    sheet::judged(
+        t,
         b"11 at its first position",
         &tree,
         b"\x00\x01\x20\x21",

@@ -1,15 +1,11 @@
-// A row is compared with what is expected of it, the verdict and the work afterwards; the totals come last.
+// A row is compared with what is expected of it: the verdict, and the work afterwards.
 use rules::Verdict;
+use tally::Tally;
 
 pub enum Expected {
     Fits,
     Misfit,
     Refused { number: u8, place: usize },
-}
-
-pub struct Tally {
-    pub ok: u32,
-    pub wrong: u32,
 }
 
 fn same_refusal(expected: Expected, number: u8, place: usize) -> bool {
@@ -73,58 +69,25 @@ fn left(work: &[u64], expected: Expected) -> bool {
     }
 }
 
-// One more, up to a limit that no sheet reaches.
-fn more(n: u32) -> u32 {
-    if n < 1000 { n + 1 } else { n }
+fn compared(t: Tally, name: &[u8], v: Verdict, expected: Expected, work: &[u64]) -> Tally {
+    let ok = if same(v, expected) {
+        left(work, expected)
+    } else {
+        false
+    };
+    t.row(name, ok)
 }
 
-impl Tally {
-    pub fn new() -> Self {
-        Tally { ok: 0, wrong: 0 }
-    }
+// A tree, an episode and more work than is needed.
+pub fn judged(t: Tally, name: &[u8], tree: &[u8], episode: &[u8], expected: Expected) -> Tally {
+    let mut work = [7u64; 8130];
+    let v = judging::judge(tree, episode, &mut work);
+    compared(t, name, v, expected, &work)
+}
 
-    // A row by its name.
-    fn row(mut self, name: &[u8], ok: bool) -> Self {
-        io::write_all(1, b"row ");
-        io::write_all(1, name);
-        if ok {
-            io::write_all(1, b" ok\n");
-            self.ok = more(self.ok);
-        } else {
-            io::write_all(1, b" wrong\n");
-            self.wrong = more(self.wrong);
-        }
-        self
-    }
-
-    fn compared(self, name: &[u8], v: Verdict, expected: Expected, work: &[u64]) -> Self {
-        let ok = if same(v, expected) {
-            left(work, expected)
-        } else {
-            false
-        };
-        self.row(name, ok)
-    }
-
-    // A tree, an episode and more work than is needed.
-    pub fn judged(self, name: &[u8], tree: &[u8], episode: &[u8], expected: Expected) -> Self {
-        let mut work = [7u64; 8130];
-        let v = judging::judge(tree, episode, &mut work);
-        self.compared(name, v, expected, &work)
-    }
-
-    // One number of work too few.
-    pub fn cramped(self, name: &[u8], tree: &[u8], episode: &[u8], expected: Expected) -> Self {
-        let mut work = [7u64; 8127];
-        let v = judging::judge(tree, episode, &mut work);
-        self.compared(name, v, expected, &work)
-    }
-
-    pub fn total(self) {
-        io::write_all(1, b"rows ");
-        io::print_decimal(1, self.ok as u64);
-        io::write_all(1, b" ok, ");
-        io::print_decimal(1, self.wrong as u64);
-        io::write_all(1, b" wrong\n");
-    }
+// One number of work too few.
+pub fn cramped(t: Tally, name: &[u8], tree: &[u8], episode: &[u8], expected: Expected) -> Tally {
+    let mut work = [7u64; 8127];
+    let v = judging::judge(tree, episode, &mut work);
+    compared(t, name, v, expected, &work)
 }
