@@ -12,7 +12,7 @@ fn mined(log: &[u8], text: &[u8]) -> bool {
 // What the judging program prints is this text.
 fn judged(input: &[u8], text: &[u8]) -> bool {
     let mut out = [0u8; 53040];
-    let n = printing::judged_text(input, &mut out);
+    let n = verdicts::judged_text(input, &mut out);
     check::same(&out[..n], text)
 }
 

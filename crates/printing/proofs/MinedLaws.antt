@@ -19,7 +19,7 @@ use Rattle.rules.proofs.MinedTree.{mined-fits}
 use Rattle.blocks.proofs.EpisodeLaws.{log-codes}
 use Rattle.listing.specs.Writing.{Wrote}
 use Rattle.listing.proofs.Laws.{wrote-most}
-use Rattle.printing.specs.Lines.{Listable, answerText}
+use Rattle.printing.specs.Mined.{Listable, answerText}
 
 -- ---- the text of an answer
 

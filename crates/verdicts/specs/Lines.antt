@@ -7,7 +7,7 @@ use lib.ListN.{length, take, drop}
 use Rattle.rules.specs.Trees.{Tree}
 use Rattle.rules.specs.TreeBlock.{treeBlock}
 use Rattle.rules.specs.LogBlock.{logEpisodes}
-use Rattle.rules.specs.Listing.{listing, refusalLine, verdictLines}
+use Rattle.rules.specs.Listing.{refusalLine, verdictLines}
 use Rattle.rules.specs.Printed.{Told, JudgedText}
 use Rattle.rules.specs.declared.Answer.{Answer}
 use Rattle.rules.specs.declared.Answer.the-variants.{Gives, Refused}
@@ -19,16 +19,6 @@ use Rattle.listing.specs.Writing.{Wrote}
 abbrev pub Given : Answer → Type 0
 Given (Gives n) = Unit {0}
 Given (Refused number place) = ⊥
-
--- a tree block has 127 entries
-abbrev pub Listable : Answer → Type 0
-Listable (Gives n) = n ≤ 127
-Listable (Refused number place) = Unit {0}
-
--- the listing of a tree block of as many nodes as were given, or the line of a refusal
-abbrev pub answerText : Answer → List ℕ → List ℕ
-answerText (Gives n) b = listing b n
-answerText (Refused number place) b = refusalLine number place
 
 -- the line of a refusal; nothing where there is none
 abbrev pub refusalText : Answer → List ℕ

@@ -1,16 +1,16 @@
--- `printing::block_lines` meets its contract.
+-- `verdicts::block_lines` meets its contract.
 use mathlib.Core.Path.{_≡_, refl}
 use Prim.Native.Nat.{_+_, _<_}
 use native.Mathlib.Omega.{arith}
 use borrow.Author.Needs.{needs}
 use lib.ListN.{length, getD}
 use Rattle.rules.specs.LogBlock.{recordsAt, episodesAt, blockEpisodes}
-use Rattle.printing.specs.Lines.{Given, Lines}
+use Rattle.verdicts.specs.Lines.{Given, Lines}
 use Rattle.blocks.proofs.RecordLaws.{frame-fits}
-use Rattle.printing.proofs.GivenLaws.{met-not-refused, met-next, met-lent}
-use Rattle.printing.proofs.LineLaws.{lines-none, record-lines, records-all}
-use Rattle.printing.proofs.block_lines.Statement.{statement}
-use Rattle.printing.proofs.block_lines.Tie as tie
+use Rattle.verdicts.proofs.GivenLaws.{met-not-refused, met-next, met-lent}
+use Rattle.verdicts.proofs.LineLaws.{lines-none, record-lines, records-all}
+use Rattle.verdicts.proofs.block_lines.Statement.{statement}
+use Rattle.verdicts.proofs.block_lines.Tie as tie
 
 abbrev Inv-loop : tie.InvT-loop
 Inv-loop tree block first work₀ text₀ at place₀ left₀ number₀ next₀ work text place left number next =

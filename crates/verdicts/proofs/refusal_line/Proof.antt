@@ -1,8 +1,8 @@
--- `printing::refusal_line` meets its contract.
+-- `verdicts::refusal_line` meets its contract.
 use borrow.Author.Needs.{needs}
-use Rattle.printing.proofs.TextLaws.{no-refusal, refusal-said}
-use Rattle.printing.proofs.refusal_line.Statement.{statement}
-use Rattle.printing.proofs.refusal_line.Tie as tie
+use Rattle.verdicts.proofs.TextLaws.{no-refusal, refusal-said}
+use Rattle.verdicts.proofs.refusal_line.Statement.{statement}
+use Rattle.verdicts.proofs.refusal_line.Tie as tie
 
 enum-told : tie.Need-enum-told
 enum-told c = search needs

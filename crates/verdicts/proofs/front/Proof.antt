@@ -1,10 +1,10 @@
--- `printing::front` meets its contract.
+-- `verdicts::front` meets its contract.
 use mathlib.Core.Path.{sym}
 use native.Mathlib.Omega.{arith}
 use lib.Seq.{length-take-le, take-all}
 use borrow.Author.Needs.{needs}
-use Rattle.printing.proofs.front.Statement.{statement}
-use Rattle.printing.proofs.front.Tie as tie
+use Rattle.verdicts.proofs.front.Statement.{statement}
+use Rattle.verdicts.proofs.front.Tie as tie
 
 returns : tie.Need-returns
 returns c = sym (take-all 512 _ (omega arith))

@@ -22,8 +22,8 @@ use Rattle.rules.proofs.Overlay.{take-overlaid, drop-overlaid}
 use Rattle.trees.proofs.Accepted.{accepted-tree}
 use Rattle.listing.specs.Writing.{Wrote}
 use Rattle.listing.proofs.Laws.{wrote-nothing, wrote-most}
-use Rattle.printing.specs.Lines.{Given, refusalText, LogLines, JudgedInto}
-use Rattle.printing.proofs.GivenLaws.{is-given}
+use Rattle.verdicts.specs.Lines.{Given, refusalText, LogLines, JudgedInto}
+use Rattle.verdicts.proofs.GivenLaws.{is-given}
 
 -- ---- a refusal's line
 

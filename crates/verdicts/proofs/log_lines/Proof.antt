@@ -1,15 +1,15 @@
--- `printing::log_lines` meets its contract.
+-- `verdicts::log_lines` meets its contract.
 use mathlib.Core.Path.{_≡_, refl}
 use Prim.Native.Nat.{_+_, _*_, _≤_, _<_}
 use native.Mathlib.Omega.{arith}
 use borrow.Author.Needs.{needs}
 use lib.ListN.{length}
 use Rattle.rules.specs.LogBlock.{blocksAt, episodesFrom, logEpisodes}
-use Rattle.printing.specs.Lines.{Given, Lines}
-use Rattle.printing.proofs.GivenLaws.{log-sound, block-sound, blocks-sound}
-use Rattle.printing.proofs.LineLaws.{lines-none, block-lines, log-lines}
-use Rattle.printing.proofs.log_lines.Statement.{statement}
-use Rattle.printing.proofs.log_lines.Tie as tie
+use Rattle.verdicts.specs.Lines.{Given, Lines}
+use Rattle.verdicts.proofs.GivenLaws.{log-sound, block-sound, blocks-sound}
+use Rattle.verdicts.proofs.LineLaws.{lines-none, block-lines, log-lines}
+use Rattle.verdicts.proofs.log_lines.Statement.{statement}
+use Rattle.verdicts.proofs.log_lines.Tie as tie
 
 abbrev Inv-loop : tie.InvT-loop
 Inv-loop tree log work₀ text₀ base₀ left₀ number₀ next₀ work text base left number next =

@@ -1,8 +1,8 @@
--- `printing::verdict_line` meets its contract.
+-- `verdicts::verdict_line` meets its contract.
 use borrow.Author.Needs.{needs}
-use Rattle.printing.proofs.LineLaws.{verdict-said}
-use Rattle.printing.proofs.verdict_line.Statement.{statement}
-use Rattle.printing.proofs.verdict_line.Tie as tie
+use Rattle.verdicts.proofs.LineLaws.{verdict-said}
+use Rattle.verdicts.proofs.verdict_line.Statement.{statement}
+use Rattle.verdicts.proofs.verdict_line.Tie as tie
 
 judge-requires : tie.Need-judge-requires
 judge-requires c κs = search needs

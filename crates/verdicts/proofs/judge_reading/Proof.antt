@@ -1,8 +1,8 @@
--- `printing::judge_reading` meets its contract.
+-- `verdicts::judge_reading` meets its contract.
 use borrow.Author.Needs.{needs}
-use Rattle.printing.proofs.TextLaws.{reading-stop, reading-log}
-use Rattle.printing.proofs.judge_reading.Statement.{statement}
-use Rattle.printing.proofs.judge_reading.Tie as tie
+use Rattle.verdicts.proofs.TextLaws.{reading-stop, reading-log}
+use Rattle.verdicts.proofs.judge_reading.Statement.{statement}
+use Rattle.verdicts.proofs.judge_reading.Tie as tie
 
 front-requires : tie.Need-front-requires
 front-requires c κs = search needs

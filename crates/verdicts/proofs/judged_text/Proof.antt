@@ -1,8 +1,8 @@
--- `printing::judged_text` meets its contract.
+-- `verdicts::judged_text` meets its contract.
 use borrow.Author.Needs.{needs}
-use Rattle.printing.proofs.TextLaws.{tree-given, log-given, log-few, judged-refused, judged-lines}
-use Rattle.printing.proofs.judged_text.Statement.{statement}
-use Rattle.printing.proofs.judged_text.Tie as tie
+use Rattle.verdicts.proofs.TextLaws.{tree-given, log-given, log-few, judged-refused, judged-lines}
+use Rattle.verdicts.proofs.judged_text.Statement.{statement}
+use Rattle.verdicts.proofs.judged_text.Tie as tie
 
 judge-reading-requires : tie.Need-judge-reading-requires
 judge-reading-requires c κs = search needs

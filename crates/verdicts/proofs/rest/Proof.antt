@@ -1,8 +1,8 @@
--- `printing::rest` meets its contract.
+-- `verdicts::rest` meets its contract.
 use borrow.Author.Needs.{needs}
-use Rattle.printing.proofs.TextLaws.{rest-none, rest-all}
-use Rattle.printing.proofs.rest.Statement.{statement}
-use Rattle.printing.proofs.rest.Tie as tie
+use Rattle.verdicts.proofs.TextLaws.{rest-none, rest-all}
+use Rattle.verdicts.proofs.rest.Statement.{statement}
+use Rattle.verdicts.proofs.rest.Tie as tie
 
 slice-aggregate-result : tie.Need-slice-aggregate-result
 slice-aggregate-result c = search needs

@@ -18,7 +18,7 @@ use Rattle.blocks.proofs.RecordLaws.{frame-given, frame-events, record-given}
 use Rattle.blocks.proofs.LentLaws.{lent-here}
 use Rattle.blocks.proofs.EpisodeLaws.{records-given, block-given, blocks-given, log-given}
 use Rattle.judging.proofs.AcceptLaws.{accept-lent}
-use Rattle.printing.specs.Lines.{Given}
+use Rattle.verdicts.specs.Lines.{Given}
 
 pub given-is : (a : Answer) → Given a → (n : ℕ) × (a ≡ Gives n)
 given-is (Gives n) g = (n, refl)

@@ -20,8 +20,8 @@ use Rattle.blocks.proofs.PartLaws.{getD-part}
 use Rattle.blocks.proofs.EpisodeLaws.{episodes-end, episodes-next, events-codes, blocks-episodes-end, blocks-episodes-next}
 use Rattle.listing.specs.Writing.{Wrote}
 use Rattle.listing.proofs.Laws.{wrote-nothing, wrote-then, wrote-most}
-use Rattle.printing.specs.Lines.{Given, fitting, Lines, LogLines}
-use Rattle.printing.proofs.GivenLaws.{given-is, judging-given}
+use Rattle.verdicts.specs.Lines.{Given, fitting, Lines, LogLines}
+use Rattle.verdicts.proofs.GivenLaws.{given-is, judging-given}
 
 -- the lines of more tests come after
 verdicts-append : (n : ℕ) (fs gs : List Bool) → verdictLines n (fs ++ gs) ≡ verdictLines n fs ++ verdictLines (n + length fs) gs

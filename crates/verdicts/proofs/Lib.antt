@@ -1,0 +1,3 @@
+pub mod GivenLaws
+pub mod LineLaws
+pub mod TextLaws
