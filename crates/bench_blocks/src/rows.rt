@@ -58,7 +58,7 @@ fn bytes(log: &[u8], at: usize, episode: &[u8]) -> bool {
 fn looked(line: &[u8], log: &[u8], episode: &[u8]) -> bool {
     if text::begins(line, b"log ") {
         return is(
-            blocks::read_log(log),
+            logs::read_log(log),
             text::number(line, 1),
             text::number(line, 2),
         );
@@ -66,13 +66,13 @@ fn looked(line: &[u8], log: &[u8], episode: &[u8]) -> bool {
     let at = text::number(line, 1);
     if text::begins(line, b"read ") {
         return is(
-            blocks::read(log, at),
+            records::read(log, at),
             text::number(line, 2),
             text::number(line, 3),
         );
     }
     if text::begins(line, b"codes ") {
-        return check::same(blocks::codes(log, at), episode);
+        return check::same(records::codes(log, at), episode);
     }
     bytes(log, at, episode)
 }

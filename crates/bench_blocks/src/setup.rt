@@ -36,7 +36,7 @@ fn seal(log: &mut [u8], base: usize) {
         let rest = log.len() - base;
         if 512 <= rest {
             let end = base + 512;
-            blocks::seal(&mut log[base..end]);
+            seals::seal(&mut log[base..end]);
         }
     }
 }

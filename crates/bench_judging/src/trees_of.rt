@@ -8,7 +8,7 @@ pub fn m11() -> [u8; 512] {
     trees::put(&mut tree, 2, 2, 0, 1);
     trees::put(&mut tree, 3, 2, 1, 1);
     trees::put(&mut tree, 4, 2, 2, 1);
-    blocks::seal(&mut tree);
+    seals::seal(&mut tree);
     tree
 }
 
@@ -22,7 +22,7 @@ pub fn j2() -> [u8; 512] {
     trees::put(&mut tree, 4, 6, 2, 3);
     trees::put(&mut tree, 5, 1, 0, 1);
     trees::put(&mut tree, 6, 2, 2, 1);
-    blocks::seal(&mut tree);
+    seals::seal(&mut tree);
     tree
 }
 
@@ -34,7 +34,7 @@ pub fn mixed() -> [u8; 512] {
     trees::put(&mut tree, 2, 5, 2, 3);
     trees::put(&mut tree, 3, 2, 1, 1);
     trees::put(&mut tree, 4, 2, 2, 1);
-    blocks::seal(&mut tree);
+    seals::seal(&mut tree);
     tree
 }
 

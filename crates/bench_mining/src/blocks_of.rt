@@ -17,7 +17,7 @@ pub fn unsealed(front: &[u8]) -> [u8; 512] {
 pub fn block(front: &[u8]) -> [u8; 512] {
     let mut b = [0u8; 512];
     put(front, &mut b);
-    blocks::seal(&mut b);
+    seals::seal(&mut b);
     b
 }
 

@@ -36,7 +36,7 @@ fn pack_verdict(verdict: Verdict) -> u64
 pub extern "C" fn arrabolzu_read(block: &[u8], at: usize) -> u64
     ensures { λ r. ⌜ r ≡ packed (reading 1 (now (block .entry)) at) ⌝ }
 {
-    pack(blocks::read(block, at))
+    pack(records::read(block, at))
 }
 
 // Adding an episode to a log block: the new count.

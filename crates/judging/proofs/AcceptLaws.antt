@@ -13,7 +13,7 @@ use Rattle.rules.specs.Calls.{lent, formed, judging}
 use Rattle.rules.specs.declared.Answer.{Answer}
 use Rattle.rules.specs.declared.Answer.the-variants.{Gives, Refused}
 use Rattle.rules.proofs.AnswerLaws.{demand-given, then-given, then-refused, then-gives}
-use Rattle.blocks.proofs.LentLaws.{lent-given}
+use Rattle.events.proofs.LentLaws.{lent-given}
 
 module _ (b e work : List ℕ) where
   pub accept-long : (length b ≡ 512 → ⊥) → Refused 8 0 ≡ judging b e work

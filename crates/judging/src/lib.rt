@@ -238,7 +238,7 @@ fn accept(tree: &[u8], episode: &[u8], room: usize) -> Answer
             place: 0,
         };
     }
-    if !blocks::check_right(tree) {
+    if !seals::check_right(tree) {
         return Answer::Refused {
             number: 8,
             place: 0,
@@ -248,7 +248,7 @@ fn accept(tree: &[u8], episode: &[u8], room: usize) -> Answer
     let Answer::Gives(_) = formed else {
         return formed;
     };
-    blocks::lent_episode(episode, 1)
+    events::lent_episode(episode, 1)
 }
 
 // Judging: whether the tree has the episode.

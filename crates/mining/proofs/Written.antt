@@ -23,7 +23,7 @@ use Rattle.rules.proofs.MinedTree as bound
 use Rattle.rules.proofs.Fitness.{mined-fits}
 use Rattle.rules.proofs.Leaves.{one-leaf, no-leaf}
 use Rattle.rules.proofs.TreeBlockLaws.{treeBlock-length, block-one}
-use Rattle.blocks.proofs.EpisodeLaws.{log-codes}
+use Rattle.episodes.proofs.EpisodeLaws.{log-codes}
 use Rattle.trees.proofs.Accepted.{mined-accepted}
 
 told-given : (a : Answer) (m n : ℕ) → Gives n ≡ told a m → ((end : ℕ) × (a ≡ Gives end)) × (n ≡ m)

@@ -194,7 +194,7 @@ fn mine_tree(log: &[u8], tree: &mut [u8]) -> usize
     clear(tree, 512);
     let v = views::root_of(log);
     let nodes = mine_node(log, tree, v, 0);
-    blocks::seal(tree);
+    seals::seal(tree);
     nodes
 }
 
@@ -233,7 +233,7 @@ pub fn mine(log: &[u8], out: &mut [u8], work: &mut [u8]) -> Answer
             place: 0,
         };
     }
-    let r = blocks::sound_log(log, 1);
+    let r = logs::sound_log(log, 1);
     let Answer::Gives(_) = r else {
         return r;
     };

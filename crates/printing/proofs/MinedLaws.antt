@@ -16,7 +16,7 @@ use Rattle.rules.specs.declared.Answer.{Answer}
 use Rattle.rules.specs.declared.Answer.the-variants.{Gives, Refused}
 use Rattle.rules.proofs.AnswerLaws.{demand-given}
 use Rattle.rules.proofs.MinedTree.{mined-fits}
-use Rattle.blocks.proofs.EpisodeLaws.{log-codes}
+use Rattle.episodes.proofs.EpisodeLaws.{log-codes}
 use Rattle.listing.specs.Writing.{Wrote}
 use Rattle.listing.proofs.Laws.{wrote-most}
 use Rattle.printing.specs.Mined.{Listable, answerText}

@@ -23,8 +23,8 @@ use Rattle.rules.proofs.ByteLaws.{bytes-append, bytes-at, bytes-zeros, entries-
 use Rattle.rules.proofs.FormedLaws.{EmptyAfter, FormedTree, formed-tree, tree-formed}
 use Rattle.rules.proofs.Occurring.{Below}
 use Rattle.rules.proofs.MinedTree.{mined-wellFormed, mined-fits}
-use Rattle.blocks.proofs.CheckLaws.{sealed-bytes, sealed-right}
-use Rattle.blocks.proofs.PaddingLaws.{unset-zero, zero-unset}
+use Rattle.seals.proofs.CheckLaws.{sealed-bytes, sealed-right}
+use Rattle.padding.proofs.PaddingLaws.{unset-zero, zero-unset}
 use Rattle.trees.proofs.SealLaws.{sealed-same, right-sealed}
 use Rattle.trees.proofs.CheckingLaws.{whole-here, checking-whole}
 

@@ -9,7 +9,7 @@ use lib.Seq.{getD-take, getD-drop}
 use borrow.Author.Tests.{eqb-true}
 use mathlib.Core.Bool.{true}
 use Rattle.rules.specs.LogBlock.{weighed, storedCheck, checkRight, fourBytes, sealed}
-use Rattle.blocks.proofs.CheckLaws.{weighed-same}
+use Rattle.seals.proofs.CheckLaws.{weighed-same}
 
 -- the check reads the first 508 bytes alone
 pub sealed-same : (b b′ : List ℕ) → take 508 b ≡ take 508 b′ → sealed b ≡ sealed b′

@@ -179,7 +179,7 @@ pub fn formed(tree: &[u8]) -> Answer
         };
     };
     let end = next * 4;
-    if blocks::first_set(&tree[end..508]) < 508 - end {
+    if padding::first_set(&tree[end..508]) < 508 - end {
         return Answer::Refused {
             number: 9,
             place: 0,
@@ -195,7 +195,7 @@ fn whole(tree: &[u8]) -> bool
     if tree.len() != 512 {
         return false;
     }
-    blocks::check_right(tree)
+    seals::check_right(tree)
 }
 
 // Checking a tree: the number of nodes.

@@ -14,9 +14,9 @@ use Rattle.rules.specs.Calls.{topCode, lent, formed, checking, judging, logSoun
 use Rattle.rules.specs.declared.Answer.{Answer}
 use Rattle.rules.specs.declared.Answer.the-variants.{Gives, Refused}
 use Rattle.rules.proofs.AnswerLaws.{demand-given, refused-gives, gives-same}
-use Rattle.blocks.proofs.RecordLaws.{frame-given, frame-events, record-given}
-use Rattle.blocks.proofs.LentLaws.{lent-here}
-use Rattle.blocks.proofs.EpisodeLaws.{records-given, block-given, blocks-given, log-given}
+use Rattle.records.proofs.RecordLaws.{frame-given, frame-events, record-given}
+use Rattle.events.proofs.LentLaws.{lent-here}
+use Rattle.episodes.proofs.EpisodeLaws.{records-given, block-given, blocks-given, log-given}
 use Rattle.judging.proofs.AcceptLaws.{accept-lent}
 use Rattle.verdicts.specs.Lines.{Given}
 

@@ -16,8 +16,8 @@ use Rattle.rules.specs.declared.Answer.{Answer}
 use Rattle.rules.specs.declared.Answer.the-variants.{Gives}
 use Rattle.rules.specs.declared.Verdict.{Verdict}
 use Rattle.rules.specs.declared.Verdict.the-variants.{Fits, Misfit, Refused as Dismissed}
-use Rattle.blocks.proofs.PartLaws.{getD-part}
-use Rattle.blocks.proofs.EpisodeLaws.{episodes-end, episodes-next, events-codes, blocks-episodes-end, blocks-episodes-next}
+use Rattle.seals.proofs.PartLaws.{getD-part}
+use Rattle.episodes.proofs.EpisodeLaws.{episodes-end, episodes-next, events-codes, blocks-episodes-end, blocks-episodes-next}
 use Rattle.listing.specs.Writing.{Wrote}
 use Rattle.listing.proofs.Laws.{wrote-nothing, wrote-then, wrote-most}
 use Rattle.verdicts.specs.Lines.{Given, fitting, Lines, LogLines}

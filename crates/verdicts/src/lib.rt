@@ -65,7 +65,7 @@ fn block_lines(
     let mut number = first;
     let mut next = at;
     while 0 < left {
-        let r = blocks::frame(block, place, 1);
+        let r = records::frame(block, place, 1);
         let Answer::Gives(after) = r else {
             return next;
         };
@@ -90,7 +90,7 @@ fn log_lines(tree: &[u8], log: &[u8], work: &mut [u64], text: &mut [u8]) -> usiz
     while 0 < left {
         let end = base + 512;
         next = block_lines(tree, &log[base..end], number, work, text, next);
-        number += blocks::wide(log[base]);
+        number += records::wide(log[base]);
         base = end;
         left -= 1;
     }
@@ -125,7 +125,7 @@ fn judge_reading(input: &[u8]) -> Answer
     let Answer::Gives(_) = r else {
         return r;
     };
-    blocks::read_log(rest(input))
+    logs::read_log(rest(input))
 }
 
 // What the judging program prints: at most 53,040 bytes.

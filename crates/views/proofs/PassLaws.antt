@@ -12,7 +12,7 @@ use Rattle.rules.specs.Mining.{Episode, Log, project}
 use Rattle.rules.specs.LogBlock.{frameAt, eventsAt, episodesAt, blockEpisodes, episodesFrom}
 use Rattle.rules.proofs.BoolLaws.{or-off, or-assoc}
 use Rattle.rules.proofs.ListLaws.{each-append, flat-append}
-use Rattle.blocks.proofs.EpisodeLaws.{episodes-end, episodes-stop, episodes-next, events-codes, blocks-episodes-end, blocks-episodes-next}
+use Rattle.episodes.proofs.EpisodeLaws.{episodes-end, episodes-stop, episodes-next, events-codes, blocks-episodes-end, blocks-episodes-next}
 use Rattle.views.specs.Sublogs.{Sight, emptyIf, pieces, piecesOf, shown, lacks, bareOf}
 use Rattle.views.specs.Passes.{joined, withPieces, someLacks}
 use Rattle.views.proofs.TrailLaws.{any-append, joined-nil, joined-append}

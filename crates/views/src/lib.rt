@@ -278,7 +278,7 @@ fn graph_block(block: &[u8], v: View, g: Graph) -> Graph
     let mut at: usize = 1;
     let mut left = block[0];
     while 0 < left {
-        let r = blocks::frame(block, at, 1);
+        let r = records::frame(block, at, 1);
         let Answer::Gives(next) = r else {
             return h;
         };
@@ -317,7 +317,7 @@ fn bare_block(block: &[u8], v: View, part: CodeSet) -> bool
     let mut at: usize = 1;
     let mut left = block[0];
     while 0 < left {
-        let r = blocks::frame(block, at, 1);
+        let r = records::frame(block, at, 1);
         let Answer::Gives(next) = r else {
             return false;
         };
@@ -360,7 +360,7 @@ fn root_block(block: &[u8], v: View) -> View
     let mut at: usize = 1;
     let mut left = block[0];
     while 0 < left {
-        let r = blocks::frame(block, at, 1);
+        let r = records::frame(block, at, 1);
         let Answer::Gives(next) = r else {
             return w;
         };

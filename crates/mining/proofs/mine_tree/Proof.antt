@@ -4,7 +4,7 @@ use lib.ListN.{length}
 use Rattle.rules.specs.Trees.{size}
 use Rattle.rules.specs.LogBlock.{logEpisodes}
 use Rattle.rules.proofs.Occurring.{Below}
-use Rattle.blocks.proofs.EpisodeLaws.{log-codes}
+use Rattle.episodes.proofs.EpisodeLaws.{log-codes}
 use native.Mathlib.Nat.{zero-add}
 use Rattle.rules.proofs.TreeBlockLaws.{zeros-length}
 use Rattle.mining.proofs.CallLaws.{root-ready, root-mined, clear-whole, block-is}

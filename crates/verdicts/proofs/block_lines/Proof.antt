@@ -6,7 +6,7 @@ use borrow.Author.Needs.{needs}
 use lib.ListN.{length, getD}
 use Rattle.rules.specs.LogBlock.{recordsAt, episodesAt, blockEpisodes}
 use Rattle.verdicts.specs.Lines.{Given, Lines}
-use Rattle.blocks.proofs.RecordLaws.{frame-fits}
+use Rattle.records.proofs.RecordLaws.{frame-fits}
 use Rattle.verdicts.proofs.GivenLaws.{met-not-refused, met-next, met-lent}
 use Rattle.verdicts.proofs.LineLaws.{lines-none, record-lines, records-all}
 use Rattle.verdicts.proofs.block_lines.Statement.{statement}

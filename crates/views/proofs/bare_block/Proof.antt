@@ -4,7 +4,7 @@ use Prim.Native.Nat.{_-_}
 use native.Mathlib.Omega.{arith}
 use Rattle.codes.specs.Bits.{listed}
 use Rattle.rules.specs.LogBlock.{episodesAt, blockEpisodes}
-use Rattle.blocks.proofs.RecordLaws.{frame-fits}
+use Rattle.records.proofs.RecordLaws.{frame-fits}
 use Rattle.views.specs.Sublogs.{sight}
 use Rattle.views.specs.Passes.{someLacks}
 use Rattle.views.proofs.PassLaws.{records-end, records-stop, records-next, lacks-nil, lacks-append}

@@ -4,7 +4,7 @@ use native.Mathlib.Omega.{arith}
 use borrow.Author.Needs.{needs}
 use Rattle.rules.specs.LogBlock.{episodesAt, blockEpisodes}
 use Rattle.graphs.specs.Edges.{meant}
-use Rattle.blocks.proofs.RecordLaws.{frame-fits}
+use Rattle.records.proofs.RecordLaws.{frame-fits}
 use Rattle.views.specs.Sublogs.{sight}
 use Rattle.views.specs.Passes.{withPieces}
 use Rattle.views.proofs.PassLaws.{records-end, records-stop, records-next, graph-nil, graph-append}

@@ -2,7 +2,7 @@ use mathlib.Core.Path.{_≡_, refl}
 use Prim.Native.Nat.{_-_}
 use native.Mathlib.Omega.{arith}
 use Rattle.rules.specs.LogBlock.{episodesAt, blockEpisodes}
-use Rattle.blocks.proofs.RecordLaws.{frame-fits}
+use Rattle.records.proofs.RecordLaws.{frame-fits}
 use Rattle.views.specs.Sublogs.{sight}
 use Rattle.views.specs.Passes.{widened}
 use Rattle.views.proofs.PassLaws.{records-end, records-stop, records-next}
