@@ -17,8 +17,7 @@ use Rattle.rules.specs.declared.Answer.the-variants.{Gives, Refused}
 use Rattle.rules.proofs.Occurring.{Below}
 use Rattle.rules.proofs.MinedTree.{mined-fits}
 use Rattle.views.specs.declared.View.{View}
-use Rattle.views.specs.Sublogs.{Sight, shown, sight, sublog, Tight}
-use Rattle.views.specs.Passes.{rootSight}
+use Rattle.views.specs.Sublogs.{Sight, shown, sight, sublog, Tight, rootSight}
 use Rattle.views.proofs.TightLaws.{root-tight, root-tree}
 use Rattle.mining.specs.Writing.{laid}
 use Rattle.mining.specs.Plans.{Ready}

@@ -3,14 +3,15 @@ use mathlib.Core.Path.{_≡_, refl, sym, _∙_, ap, subst}
 use mathlib.Core.Logic.{_⊎_, inl, inr, ⊎-elim}
 use mathlib.Core.List.{List, [], _∷_}
 use mathlib.Core.Bool.{Bool, true, false, true≢false}
-use Prim.Native.Nat.{ℕ, _^_, _≤_, _<_}
+use Prim.Native.Nat.{ℕ, _/_, _%_, _^_, _≤_, _<_}
 use native.Mathlib.Nat.{pos-of-ne-zero}
 use native.Mathlib.Omega.{arith}
 use lib.Dec.{eqb}
-use lib.ListN.{length}
+use lib.ListN.{length, take, getD}
+use lib.Seq.{getD-take, length-take-le}
 use lib.Count.{trailingZeros}
 use borrow.Author.Tests.{eqb-true}
-use Rattle.rules.specs.Words.{pick, keep, from}
+use Rattle.rules.specs.Words.{pick, keep, each, from}
 use Rattle.rules.specs.Trees.{Op, choice, sequence, parallel, loop}
 use Rattle.rules.specs.Mining as mining
 use Rattle.rules.specs.Mining.{Log, Rel, Shape, nothing, single, flower, cut, graph, shape, headOf, orElse, cutOr, occurring}
@@ -26,10 +27,10 @@ use Rattle.tables.specs.Joined.{setsOf, partsOf}
 use Rattle.cuts.specs.declared.Cut.{Cut}
 use Rattle.cuts.specs.Cuts.{Inside, cutElse, cutShape, CutOf}
 use Rattle.views.specs.declared.View.{View}
-use Rattle.views.specs.Sublogs.{sight, sublog, Tight}
-use Rattle.views.specs.Passes.{drawn}
+use Rattle.views.specs.Sublogs.{sight, sublog, Tight, partSight, drawn}
 use Rattle.views.proofs.TightLaws.{tight-graph}
-use Rattle.mining.specs.Plans.{lone, baseShape, Planned}
+use Rattle.mining.specs.Plans.{lone, baseShape, Told, CutPlan, Planned}
+use Rattle.mining.specs.declared.Plan.{Plan}
 use Rattle.mining.proofs.PlanLaws.{plan-silent, plan-flower, plan-rest}
 
 -- a set that is not empty has a code
@@ -77,20 +78,26 @@ module _ (l : Log) (v : View) where
   codesOf = listed 32 (v .keep .bits)
 
   -- a plan of a kind below 3
-  based : (kind : ℕ) (sets : List ℕ) → kind < 3 → (Tight 32 (sight v) l → shape 32 (sublog v l) ≡ baseShape kind codesOf) →
-      Planned l v (record { kind = kind; n = 0; sets = sets })
-  based kind sets h f =
-      record { few = omega arith; room = omega arith; base = λ k _. f k; cuts = λ k big. absurd (omega arith) }
+  module _ (r : Plan) (kind : ℕ) (u : (r .kind ≡ kind) × (r .n ≡ 0)) where
+    based : kind < 3 → (Tight 32 (sight v) l → shape 32 (sublog v l) ≡ baseShape kind codesOf) → Planned l v r
+    based h f =
+        let k = u .0 in
+        let n = u .1 in
+        record {
+          few = omega arith;
+          room = omega arith;
+          base = λ t _. f t ∙ ap (λ (q : ℕ). baseShape q codesOf) (sym k);
+          told = λ o e j lt. absurd (omega (arith, kind-big o));
+          cuts = λ t big. absurd (omega arith);
+        }
 
-  module _ (sets : List ℕ) where
-    pub planned-silent : v .keep .bits ≡ 0 → Planned l v (record { kind = 1; n = 0; sets = sets })
-    planned-silent z = based 1 sets (omega arith) (λ k. plan-silent 32 (sight v) l k (λ c. ap (λ (x : ℕ). has x c) z ∙ has-zero c))
+  pub planned-silent : (r : Plan) → (r .kind ≡ 1) × (r .n ≡ 0) → v .keep .bits ≡ 0 → Planned l v r
+  planned-silent r u z = based r 1 u (omega arith) (λ k. plan-silent 32 (sight v) l k (λ c. ap (λ (x : ℕ). has x c) z ∙ has-zero c))
 
-    module _ (small : v .keep .bits < 2 ^ 32) (some : v .keep .bits ≡ 0 → ⊥) where
-      pub planned-flower : v .bare ≡ true → Planned l v (record { kind = 0; n = 0; sets = sets })
-      planned-flower e =
-          based 0 sets (omega arith)
-          (λ k. let c = some-code (v .keep .bits) small some in unfold listed in plan-flower 32 (sight v) l k (c .0) (c .1) e)
+  pub planned-flower : (r : Plan) → (r .kind ≡ 0) × (r .n ≡ 0) → v .keep .bits < 2 ^ 32 → (v .keep .bits ≡ 0 → ⊥) → v .bare ≡ true → Planned l v r
+  planned-flower r u small some e =
+      based r 0 u (omega arith)
+      (λ k. let c = some-code (v .keep .bits) small some in unfold listed in plan-flower 32 (sight v) l k (c .0) (c .1) e)
 
   module _ (small : v .keep .bits < 2 ^ 32) (some : v .keep .bits ≡ 0 → ⊥) (full : v .bare ≡ false) (g : Graph)
       (drew : meant g (v .keep .bits) ≡ drawn codesOf (sublog v l)) (t : Bool) (call : t ≡ lone (edgeOf (g .rows)) codesOf) where
@@ -109,9 +116,9 @@ module _ (l : Log) (v : View) where
         plan-rest 32 (sight v) l k (c .0) (c .1) full
         ∙ (λ i. pick ((ap (λ (e : Rel). lone e codesOf) (sym (edge-is k)) ∙ sym call) i) (single (headOf codesOf)) (cutOr (sym (graph-is k) i) (flower codesOf)))
 
-    pub planned-leaf : t ≡ true → (sets : List ℕ) → Planned l v (record { kind = 2; n = 0; sets = sets })
-    planned-leaf e sets =
-        based 2 sets (omega arith) (λ k. rest k ∙ ap (λ (b : Bool). pick b (single (headOf codesOf)) (cutOr (meant g (v .keep .bits)) (flower codesOf))) e)
+    pub planned-leaf : t ≡ true → (r : Plan) → (r .kind ≡ 2) × (r .n ≡ 0) → Planned l v r
+    planned-leaf e r u =
+        based r 2 u (omega arith) (λ k. rest k ∙ ap (λ (b : Bool). pick b (single (headOf codesOf)) (cutOr (meant g (v .keep .bits)) (flower codesOf))) e)
 
     inside : Tight 32 (sight v) l → Inside g (v .keep .bits)
     inside k a b e =
@@ -129,12 +136,30 @@ module _ (l : Log) (v : View) where
           cut-kinds (r .kind) codesOf (partsOf (r .parts)) (eqb (r .kind) 0) (eqb (r .kind) 3) (eqb (r .kind) 4) (eqb (r .kind) 5) (eqb (r .kind) 6) refl refl refl refl refl
           (shape 32 (sublog v l)) (c .shape (inside k) ∙ sym e) (ap isNothing e ∙ cut-something (meant g (v .keep .bits)) (flower codesOf) refl)
 
-      pub planned-cut : Planned l v (record { kind = r .kind; n = r .parts .n; sets = r .parts .sets })
+      pub planned-cut : (p : Plan) → CutPlan l v (r .kind) (r .parts) p → Planned l v p
       unfolding partsOf setsOf
-      planned-cut =
+      planned-cut p q =
+          let kind = q .is in
+          let count = q .count in
+          let parts : take (p .n) (p .sets) ≡ take (r .parts .n) (r .parts .sets) = (λ i. take (count i) (q .same i)) in
           record {
-            few = c .few;
-            room = omega (arith, c .few);
-            base = λ k h. ⊎-elim (λ z. z .1 ∙ ap (λ (n : ℕ). baseShape n codesOf) (sym (z .0))) (λ z. absurd (omega (arith, kind-big (z .0), z .1))) (found k);
-            cuts = λ k h. ⊎-elim (λ z. absurd (omega (arith, z .0))) (λ z. z) (found k);
+            few = omega (arith, c .few);
+            room = omega (arith, c .few, ap length (q .same));
+            base = λ k h. ⊎-elim (λ z. z .1 ∙ ap (λ (n : ℕ). baseShape n codesOf) (sym (kind ∙ z .0))) (λ z. absurd (omega (arith, kind-big (z .0), z .1))) (found k);
+            told = q .told;
+            cuts = λ k h. ⊎-elim (λ z. absurd (omega (arith, z .0))) (λ z. (z .0, z .1 ∙ sym kind, z .2 ∙ ap (λ (xs : List ℕ). cut (z .0) (each (listed 32) xs)) (sym parts))) (found k);
           }
+
+-- a slice of the sets has the parts
+pub cut-told : (l : Log) (v : View) (kind missed n : ℕ) (sets lent : List ℕ) → n ≤ length sets → (m : ℕ) → m ≡ n → lent ≡ take m sets →
+    ((o : Op) → kindOf o ≡ kind → (k : ℕ) → k < length lent → has missed k ≡ partSight o (listed 32 (getD lent k 0)) l (sight v) .bare) →
+    Told l v (record { kind = kind; n = n; sets = sets; missed = missed })
+cut-told l v kind missed n sets lent room m same e' h o f k lt =
+    let e : lent ≡ take n sets = e' ∙ ap (λ (q : ℕ). take q sets) same in
+    h o f k (omega (arith, ap length e, length-take-le n sets room))
+    ∙ ap (λ (x : ℕ). partSight o (listed 32 x) l (sight v) .bare) (ap (λ (xs : List ℕ). getD xs k 0) e ∙ getD-take n sets k 0 lt)
+
+-- the bit of a part, as code asks for it
+pub missed-bit : (missed k : ℕ) (b : Bool) → has missed k ≡ b → eqb (missed / 2 ^ k % 2) 1 ≡ b
+unfolding has
+missed-bit missed k b e = e

@@ -4,16 +4,17 @@ use mathlib.Core.List.{List, [], _∷_}
 use mathlib.Core.Bool.{Bool, false, not}
 use Prim.Native.Nat.{ℕ, _+_, _≤_, _<_}
 use lib.Dec.{eqb}
-use lib.ListN.{length, take}
+use lib.ListN.{length, take, getD}
 use Rattle.rules.specs.Words.{pick, each}
 use Rattle.rules.specs.Trees.{Op, Tree, silent, leaf, size}
 use Rattle.rules.specs.Mining.{Log, Rel, Shape, nothing, single, flower, cut, shape, headOf, flowerOf, mined}
 use Rattle.rules.specs.TreeBlock.{kindOf}
 use Rattle.rules.specs.Calls.{logSound}
 use Rattle.rules.specs.declared.Answer.the-variants.{Gives}
-use Rattle.codes.specs.Bits.{listed}
+use Rattle.codes.specs.Bits.{has, listed}
+use Rattle.tables.specs.declared.Parts.{Parts}
 use Rattle.views.specs.declared.View.{View}
-use Rattle.views.specs.Sublogs.{sight, sublog, Tight}
+use Rattle.views.specs.Sublogs.{sight, sublog, Tight, partSight}
 use Rattle.mining.specs.declared.Plan.{Plan}
 
 -- one code, and it never follows itself
@@ -29,11 +30,23 @@ baseShape kind cs = pick (eqb kind 1) nothing (pick (eqb kind 2) (single (headOf
 abbrev pub baseTree : ℕ → List ℕ → Tree
 baseTree kind cs = pick (eqb kind 1) silent (pick (eqb kind 2) (leaf (headOf cs)) (flowerOf cs))
 
+-- the parts whose views have the empty episode are told by number
+abbrev pub Told : Log → View → Plan → Type 0
+Told l v r = (o : Op) → kindOf o ≡ r .kind → (k : ℕ) → k < r .n → has (r .missed) k ≡ partSight o (listed 32 (getD (r .sets) k 0)) l (sight v) .bare
+
+-- a cut's plan
+pub record CutPlan (l : Log) (v : View) (kind : ℕ) (parts : Parts) (r : Plan) : Type 0 where
+  pub is : r .kind ≡ kind
+  pub count : r .n ≡ parts .n
+  pub same : r .sets ≡ parts .sets
+  pub told : Told l v r
+
 -- a tight view's plan is the shape of its sublog; from 3 on the kind is that of the cut's operator
 pub record Planned (l : Log) (v : View) (r : Plan) : Type 0 where
   pub few : r .n ≤ 32
   pub room : r .n ≤ length (r .sets)
   pub base : Tight 32 (sight v) l → r .kind < 3 → shape 32 (sublog v l) ≡ baseShape (r .kind) (listed 32 (v .keep .bits))
+  pub told : Told l v r
   pub cuts : Tight 32 (sight v) l → 3 ≤ r .kind → (o : Op) × (kindOf o ≡ r .kind) × (shape 32 (sublog v l) ≡ cut o (each (listed 32) (take (r .n) (r .sets))))
 
 -- a view that may be mined from an entry on: it is tight, and its tree ends by entry 127

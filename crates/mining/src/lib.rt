@@ -2,6 +2,7 @@
 use codes::CodeSet;
 use graphs::Graph;
 use rules::Answer;
+use tables::Parts;
 use views::View;
 ghost use mathlib.Core.Path.{_≡_};
 ghost use mathlib.Core.List.{[], _++_};
@@ -17,14 +18,15 @@ ghost use Rattle.codes.specs.Bits.{has, listed};
 ghost use Rattle.graphs.specs.Edges.{edgeOf};
 ghost use Rattle.views.specs.Sublogs.{sublog};
 ghost use Rattle.mining.specs.Writing.{WroteTree, WroteAll};
-ghost use Rattle.mining.specs.Plans.{lone, baseTree, Planned, Ready, SoundLog};
+ghost use Rattle.mining.specs.Plans.{lone, baseTree, CutPlan, Planned, Ready, SoundLog};
 
 // What is made of a view's sublog: 0 a flower, 1 silent, 2 a leaf, or a cut by its operator's kind.
-// A cut's parts are the first n sets.
+// A cut's parts are the first n sets; `missed` has the numbers of those whose views have the empty episode.
 pub struct Plan {
     pub kind: u8,
     pub n: usize,
     pub sets: [u32; 32],
+    pub missed: u32,
 }
 
 // A number below 256 as a byte.
@@ -125,41 +127,52 @@ fn alone(g: Graph, keep: CodeSet) -> bool
     false
 }
 
+// The plan of a sublog that has no cut, by its kind.
+fn uncut(kind: u8) -> Plan
+    ensures { λ r. ⌜ (r .kind ≡ kind) × (r .n ≡ 0) ⌝ }
+{
+    Plan {
+        kind,
+        n: 0,
+        sets: [0u32; 32],
+        missed: 0,
+    }
+}
+
+// A cut as a plan: the parts that a sub-episode lacks are looked for.
+fn cut_plan(log: &[u8], v: View, kind: u8, parts: Parts) -> Plan
+    requires { ⌜ parts .n ≤ 32 ⌝ }
+    ensures { λ r. ⌜ CutPlan (logEpisodes 1 (now (log .entry))) v kind parts r ⌝ }
+{
+    let n = parts.n;
+    let sets = parts.sets;
+    let missed = lacking::missed_parts(log, v, kind, &sets[0..n]);
+    Plan {
+        kind,
+        n,
+        sets,
+        missed,
+    }
+}
+
 // What is made of a view's sublog.
 fn planned(log: &[u8], v: View) -> Plan
     ensures { λ r. ⌜ Planned (logEpisodes 1 (now (log .entry))) v r ⌝ }
 {
     let keep = v.keep;
     if keep.bits == 0 {
-        return Plan {
-            kind: 1,
-            n: 0,
-            sets: [0u32; 32],
-        };
+        return uncut(1);
     }
     if v.bare {
-        return Plan {
-            kind: 0,
-            n: 0,
-            sets: [0u32; 32],
-        };
+        return uncut(0);
     }
-    let g = views::graph_of(log, v);
+    let g = drawing::graph_of(log, v);
     if alone(g, keep) {
-        return Plan {
-            kind: 2,
-            n: 0,
-            sets: [0u32; 32],
-        };
+        return uncut(2);
     }
     let cut = cuts::cut_of(g, keep);
     let parts = cut.parts;
-    let sets = parts.sets;
-    Plan {
-        kind: cut.kind,
-        n: parts.n,
-        sets,
-    }
+    cut_plan(log, v, cut.kind, parts)
 }
 
 // Writes the tree of a view's sublog from an entry on, and answers the next entry.
@@ -178,7 +191,7 @@ fn mine_node(log: &[u8], tree: &mut [u8], v: View, at: usize) -> usize
     let mut i: usize = 0;
     while i < n {
         let part = CodeSet { bits: plan.sets[i] };
-        let w = views::part_of(log, v, kind, part);
+        let w = views::part_of(v, kind, part, (plan.missed >> i) % 2 == 1);
         next = mine_node(log, tree, w, next);
         i += 1;
     }
@@ -192,7 +205,7 @@ fn mine_tree(log: &[u8], tree: &mut [u8]) -> usize
     ensures { λ r. ⌜ (r ≡ size (treeOf 1 (now (log .entry)))) × (now (tree .exit) ≡ treeBlock (treeOf 1 (now (log .entry)))) ⌝ }
 {
     clear(tree, 512);
-    let v = views::root_of(log);
+    let v = roots::root_of(log);
     let nodes = mine_node(log, tree, v, 0);
     seals::seal(tree);
     nodes

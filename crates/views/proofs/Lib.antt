@@ -1,10 +1,6 @@
 pub mod SetLaws
 pub mod WalkLaws
 pub mod PartLaws
-pub mod TrailLaws
-pub mod MetLaws
-pub mod TurnLaws
-pub mod RootLaws
 pub mod PassLaws
 pub mod TightLaws
 pub mod KindLaws

@@ -1,5 +1,5 @@
 -- A pass over a log: what each turn over a block's records and over the blocks keeps, whatever the pass adds up.
-use mathlib.Core.Path.{_≡_, sym, _∙_, ap}
+use mathlib.Core.Path.{_≡_, refl, sym, _∙_, ap}
 use mathlib.Core.List.{List, [], _∷_, _++_, append-nil}
 use mathlib.Core.Bool.{Bool, true, false, _||_}
 use Prim.Native.Nat.{ℕ, _+_, _-_, _<_, _≤_}
@@ -7,15 +7,12 @@ use lib.ListN.{length}
 use Rattle.rules.specs.declared.Answer.{Answer}
 use Rattle.rules.specs.declared.Answer.the-variants.{Gives, Refused}
 use Rattle.rules.specs.Words.{any, part, each, flat}
-use Rattle.rules.specs.Mining as mining
 use Rattle.rules.specs.Mining.{Episode, Log, project}
 use Rattle.rules.specs.LogBlock.{frameAt, eventsAt, episodesAt, blockEpisodes, episodesFrom}
-use Rattle.rules.proofs.BoolLaws.{or-off, or-assoc}
+use Rattle.rules.proofs.BoolLaws.{or-assoc}
 use Rattle.rules.proofs.ListLaws.{each-append, flat-append}
 use Rattle.episodes.proofs.EpisodeLaws.{episodes-end, episodes-stop, episodes-next, events-codes, blocks-episodes-end, blocks-episodes-next}
 use Rattle.views.specs.Sublogs.{Sight, emptyIf, pieces, piecesOf, shown, lacks, bareOf}
-use Rattle.views.specs.Passes.{joined, withPieces, someLacks}
-use Rattle.views.proofs.TrailLaws.{any-append, joined-nil, joined-append}
 
 -- `act` is what a log adds to what was added up before
 module _ {S : Type 0} (act : S → Log → S) (nil : (s : S) → act s [] ≡ s) (app : (s : S) (l m : Log) → act (act s l) m ≡ act s (l ++ m)) where
@@ -44,7 +41,11 @@ module _ {S : Type 0} (act : S → Log → S) (nil : (s : S) → act s [] ≡ s)
         ∙ sym (app s (blockEpisodes 1 (part log base (base + 512 - base))) (episodesFrom 1 (left - 1) log (base + 512)))
         ∙ ap (λ (z : S). act z (episodesFrom 1 (left - 1) log (base + 512))) (sym f)
 
--- ---- what the passes add up
+-- ---- the sub-episodes of a log
+
+pub any-append : {A : Type 0} (p : A → Bool) (xs ys : List A) → any p (xs ++ ys) ≡ (any p xs || any p ys)
+any-append p [] ys = refl
+any-append p (x ∷ xs) ys = ap (_||_ (p x)) (any-append p xs ys) ∙ sym (or-assoc (p x) (any p xs) (any p ys))
 
 pub pieces-append : (s : Sight) (l m : Log) → piecesOf s l ++ piecesOf s m ≡ piecesOf s (l ++ m)
 pieces-append s l m =
@@ -54,25 +55,11 @@ pieces-append s l m =
 pub pieces-one : (s : Sight) (t : Episode) → pieces (s .kept) (s .breaks) t ≡ piecesOf s (t ∷ [])
 pieces-one s t = sym (append-nil (pieces (s .kept) (s .breaks) t))
 
-pub graph-nil : (s : Sight) (g : mining.Graph) → withPieces s g [] ≡ g
-graph-nil s g = joined-nil g
-
-pub graph-append : (s : Sight) (g : mining.Graph) (l m : Log) → withPieces s (withPieces s g l) m ≡ withPieces s g (l ++ m)
-graph-append s g l m = joined-append g (piecesOf s l) (piecesOf s m) ∙ ap (joined g) (pieces-append s l m)
-
-pub lacks-nil : (s : Sight) (p : List ℕ) (t : Bool) → someLacks s p t [] ≡ t
-lacks-nil s p t = or-off t
-
-pub lacks-append : (s : Sight) (p : List ℕ) (t : Bool) (l m : Log) → someLacks s p (someLacks s p t l) m ≡ someLacks s p t (l ++ m)
-lacks-append s p t l m =
-    or-assoc t (any (lacks p) (piecesOf s l)) (any (lacks p) (piecesOf s m))
-    ∙ ap (_||_ t) (sym (any-append (lacks p) (piecesOf s l) (piecesOf s m)) ∙ ap (any (lacks p)) (pieces-append s l m))
-
 -- the empty episode has none of the part's codes
 pub bare-empty : (s : Sight) (p : List ℕ) (l : Log) → s .bare ≡ true → true ≡ bareOf p l s
 unfolding shown project
 bare-empty s p l e = ap (λ (b : Bool). any (lacks p) (emptyIf b ++ piecesOf s l)) (sym e)
 
-pub bare-full : (s : Sight) (p : List ℕ) (l : Log) → s .bare ≡ false → someLacks s p false l ≡ bareOf p l s
+pub bare-full : (s : Sight) (p : List ℕ) (l : Log) → s .bare ≡ false → any (lacks p) (piecesOf s l) ≡ bareOf p l s
 unfolding shown
 bare-full s p l e = ap (λ (b : Bool). any (lacks p) (emptyIf b ++ piecesOf s l)) (sym e)

@@ -18,8 +18,7 @@ use Rattle.rules.proofs.SameEpisodes.{Same, occurring-same, mined-same}
 use Rattle.rules.proofs.Cuts.{choice-whole}
 use Rattle.rules.proofs.Splits.{split-occurring}
 use Rattle.rules.proofs.Shapes.{Taken}
-use Rattle.views.specs.Sublogs.{Set, close, pieces, piecesOf, emptyIf, Sight, shown, Tight, partSight}
-use Rattle.views.specs.Passes.{drawn, rootSight}
+use Rattle.views.specs.Sublogs.{Set, close, pieces, piecesOf, emptyIf, Sight, shown, Tight, partSight, rootSight, drawn}
 use Rattle.views.proofs.WalkLaws.{filled, pieces-full, pieces-kept, pieces-whole}
 use Rattle.views.proofs.PartLaws.{Good, loop-view, row-view, choice-view, bared-within, within-bared}
 

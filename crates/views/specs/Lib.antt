@@ -1,2 +1,1 @@
 pub mod Sublogs
-pub mod Passes

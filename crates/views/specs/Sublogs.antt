@@ -5,7 +5,8 @@ use mathlib.Core.Bool.{Bool, true, false, not, _&&_, _||_}
 use Prim.Native.Nat.{ℕ, _<_}
 use Rattle.rules.specs.Words.{any, keep, each, flat, mem, from}
 use Rattle.rules.specs.Trees.{Op, choice, sequence, parallel, loop}
-use Rattle.rules.specs.Mining.{Episode, Log, occurring, project, isEmpty}
+use lib.Dec.{ltb}
+use Rattle.rules.specs.Mining.{Episode, Log, Graph, occurring, project, isEmpty, follows, startsWith, endsWith}
 use Rattle.codes.specs.Bits.{has}
 use Rattle.views.specs.declared.View.{View}
 
@@ -82,3 +83,17 @@ partSight choice p l s = record { kept = λ c. mem c p; breaks = s .breaks; bare
 partSight sequence p l s = record { kept = λ c. mem c p; breaks = s .breaks; bare = bareOf p l s }
 partSight parallel p l s = record { kept = λ c. mem c p; breaks = s .breaks; bare = bareOf p l s }
 partSight loop p l s = record { kept = λ c. mem c p; breaks = λ c. s .breaks c || (s .kept c && not (mem c p)); bare = false }
+
+-- the whole log: every code that occurs is an event, none is a break
+abbrev pub rootSight : ℕ → Log → Sight
+rootSight m l = record { kept = λ c. ltb c m && any (mem c) l; breaks = λ _. false; bare = any isEmpty l }
+
+-- the graph of a log on some codes
+unfoldable pub drawn : List ℕ → Log → Graph
+drawn cs l =
+    record {
+      codes = cs;
+      edge = λ a b. any (follows a b) l;
+      start = λ a. any (startsWith a) l;
+      end = λ a. any (endsWith a) l;
+    }

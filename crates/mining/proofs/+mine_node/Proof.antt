@@ -1,14 +1,15 @@
 use borrow.Author.Needs.{needs}
 use mathlib.Core.Path.{_≡_, ap, subst}
 use native.Mathlib.Omega.{arith}
-use lib.ListN.{length}
+use lib.ListN.{length, getD}
 use Rattle.rules.specs.Trees.{Op, Tree, size}
 use Rattle.rules.specs.Mining.{cut, shape}
 use Rattle.rules.specs.LogBlock.{logEpisodes}
 use Rattle.rules.specs.TreeBlock.{kindOf}
 use Rattle.codes.specs.Bits.{listed}
-use Rattle.views.specs.Sublogs.{sublog}
+use Rattle.views.specs.Sublogs.{sight, sublog, partSight}
 use Rattle.mining.specs.Writing.{WroteTree}
+use Rattle.mining.proofs.PlannedLaws.{missed-bit}
 use Rattle.mining.proofs.NodeLaws.{restOf, Growing, node-base, node-start, node-room, node-next, node-wrote, child-fewer, child-ready, child-next, child-long}
 use Prim.Native.Nat.{ℕ, _-_, _<_, _≤_}
 use borrow.Fn.Kinds.{In}
@@ -86,20 +87,30 @@ mine-node-loop-holds t c =
     let plan = c .before .planned in
     ((λ o e h. node-start l (a .v) (a .tree .now) (a .at) ready (plan .result .n) (plan .result .sets) (plan .ensures .room) o h), ready .long, omega arith)
 
-mine-node-mul-t18 : (t : ℕ) → mine-node-lts.Need-mul-t18 (env t) (mine-node-at t) mine-node.Post mine-node-Inv-loop mine-node-μ-loop
-mine-node-mul-t18 t c =
+mine-node-mul-part-of : (t : ℕ) → mine-node-lts.Need-mul-part-of (env t) (mine-node-at t) mine-node.Post mine-node-Inv-loop mine-node-μ-loop
+mine-node-mul-part-of t c =
     let a = c .before .before .before .before .before .before .args in
     let l = logEpisodes 1 (a .log .now) in
     let ready = c .before .before .before .before .before .before .pre .1 in
     let plan = c .before .before .before .planned in
     omega (arith, plan .ensures .few)
 
-mine-node-element-copy-out-t21 : (t : ℕ) → mine-node-lts.Need-element-copy-out-t21 (env t) (mine-node-at t) mine-node.Post mine-node-Inv-loop mine-node-μ-loop
-mine-node-element-copy-out-t21 t c =
+mine-node-element-copy-out-part-of : (t : ℕ) → mine-node-lts.Need-element-copy-out-part-of (env t) (mine-node-at t) mine-node.Post mine-node-Inv-loop mine-node-μ-loop
+mine-node-element-copy-out-part-of t c =
     let a = c .before .before .before .before .before .before .args in
     let l = logEpisodes 1 (a .log .now) in
     let ready = c .before .before .before .before .before .before .pre .1 in
     let plan = c .before .before .before .planned in
+    omega (arith, plan .ensures .few)
+
+mine-node-cast-part-of : (t : ℕ) → mine-node-lts.Need-cast-part-of (env t) (mine-node-at t) mine-node.Post mine-node-Inv-loop mine-node-μ-loop
+mine-node-cast-part-of t c =
+    let plan = c .before .before .before .before .planned in
+    omega (arith, plan .ensures .few)
+
+mine-node-shr-part-of : (t : ℕ) → mine-node-lts.Need-shr-part-of (env t) (mine-node-at t) mine-node.Post mine-node-Inv-loop mine-node-μ-loop
+mine-node-shr-part-of t c =
+    let plan = c .before .before .before .before .planned in
     omega (arith, plan .ensures .few)
 
 mine-node-part-of-requires : (t : ℕ) → mine-node-lts.Need-part-of-requires (env t) (mine-node-at t) mine-node.Post mine-node-Inv-loop mine-node-μ-loop
@@ -117,8 +128,8 @@ mine-node-mine-node-requires t c κs =
     let few = plan .ensures .room in
     let at = c .before .before .before .before .loop in
     let w = c .before .part-of in
-    let sees = w .ensures (made .0) (made .1) in
-    let lt = c .before .before .before .loop-test .taken in (
+    let lt = c .before .before .before .loop-test .taken in
+    let sees = w .ensures (made .0) l (made .1) (missed-bit _ _ _ (plan .ensures .told (made .0) (made .1) (at .i) lt)) in (
       omega (arith, c .before .before .before .before .before .before .before .before .before .pre .0, child-fewer l (a .v) (a .tree .now) (a .at) ready n sets few (made .0) (made .2) (at .i) lt (w .result) sees),
       child-ready l (a .v) (a .tree .now) (a .at) ready n sets few (made .0) (made .2) (at .i) lt (w .result) sees (at .next) (at .tree) (at .inv .0 (made .0) (made .1) (made .2)) (at .inv .1),
     )
@@ -147,11 +158,12 @@ mine-node-loop-again t c =
     let at = c .before .before .before .before .before .before .before .loop in
     let w = c .before .before .before .before .part-of in
     let lt = c .before .before .before .before .before .before .loop-test .taken in
+    let sees : (o : Op) → kindOf o ≡ plan .result .kind → sight (w .result) ≡ partSight o (listed 32 (getD sets (at .i) 0)) l (sight (a .v)) = λ o e. w .ensures o l e (missed-bit _ _ _ (plan .ensures .told o e (at .i) lt)) in
     let wrote = c .before .before .mine-node in (
       λ o e h.
-          child-next l (a .v) (a .tree .now) (a .at) ready n sets few o h (at .i) lt (w .result) (w .ensures o e) (at .next) (at .tree) (at .inv .0 o e h) (at .inv .1)
+          child-next l (a .v) (a .tree .now) (a .at) ready n sets few o h (at .i) lt (w .result) (sees o e) (at .next) (at .tree) (at .inv .0 o e h) (at .inv .1)
           (wrote .result) (wrote .last .1 .0) (wrote .ensures),
-      child-long l (a .v) (a .tree .now) (a .at) ready n sets few (made .0) (made .2) (at .i) lt (w .result) (w .ensures (made .0) (made .1)) (at .next) (at .tree) (at .inv .0 (made .0) (made .1) (made .2)) (at .inv .1)
+      child-long l (a .v) (a .tree .now) (a .at) ready n sets few (made .0) (made .2) (at .i) lt (w .result) (sees (made .0) (made .1)) (at .next) (at .tree) (at .inv .0 (made .0) (made .1) (made .2)) (at .inv .1)
           (wrote .result) (wrote .last .1 .0) (wrote .ensures),
       omega arith,
     )
@@ -233,8 +245,10 @@ pub +mine-node-spec : {M : Type 1} → statement M
     (mine-node-returns t)
     (mine-node-add-next t)
     (mine-node-loop-holds t)
-    (mine-node-mul-t18 t)
-    (mine-node-element-copy-out-t21 t)
+    (mine-node-mul-part-of t)
+    (mine-node-element-copy-out-part-of t)
+    (mine-node-cast-part-of t)
+    (mine-node-shr-part-of t)
     (mine-node-part-of-requires t)
     (mine-node-mine-node-requires t)
     (mine-node-add-i t)

@@ -1,0 +1,4 @@
+pub mod TrailLaws
+pub mod TurnLaws
+pub mod QuietLaws
+pub mod PassLaws

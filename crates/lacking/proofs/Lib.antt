@@ -1,0 +1,2 @@
+pub mod MissedLaws
+pub mod WalkLaws
