@@ -1,7 +1,4 @@
-pub mod WritingLaws
-pub mod PlanLaws
-pub mod BaseLaws
+pub mod ClearLaws
 pub mod NodeLaws
-pub mod PlannedLaws
 pub mod CallLaws
 pub mod Written

@@ -4,7 +4,7 @@ use Prim.Native.Nat.{ℕ, _+_, _-_, _≤_}
 use native.Mathlib.Omega.{arith}
 use lib.ListN.{length, drop, length-set}
 use Rattle.rules.specs.Words.{zeros}
-use Rattle.mining.proofs.WritingLaws.{clear-next}
+use Rattle.mining.proofs.ClearLaws.{clear-next}
 use borrow.Author.Needs.{needs}
 use Rattle.mining.proofs.clear.Statement.{statement}
 use Rattle.mining.proofs.clear.Tie as tie

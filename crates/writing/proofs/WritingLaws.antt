@@ -6,16 +6,16 @@ use Prim.Native.Nat.{ℕ, zero, suc, _+_, _-_, _*_, _≤_, _<_}
 use native.Mathlib.Nat.{add-zero, zero-add, suc-add, add-suc}
 use native.Mathlib.Numerals.{add-one}
 use native.Mathlib.Omega.{arith}
-use lib.ListN.{length, getD, set, take, drop, replicate, length-append, length-drop, length-replicate, replicate-append-replicate, take-append-drop}
-use lib.Seq.{take-at, drop-at, drop-drop, drop-cons, take-take, take-append-le, length-take-le, set-append-seam}
-use Rattle.rules.specs.Words.{push, keep, from, zeros}
+use lib.ListN.{length, take, drop, length-append, length-drop, take-append-drop}
+use lib.Seq.{take-at, drop-at, drop-drop, take-take, take-append-le, length-take-le}
+use Rattle.rules.specs.Words.{push, keep, from}
 use Rattle.rules.specs.Trees.{sizes, children}
 use Rattle.rules.specs.Mining.{leaves, flowerOf}
 use Rattle.rules.specs.TreeBlock.{entry, entries, entriesAll}
 use Rattle.rules.proofs.Entries.{entriesAll-length}
-use Rattle.codes.specs.Bits.{has, count, listed}
+use Rattle.codes.specs.Bits.{has, listed}
 use Rattle.trees.specs.Writing.{withEntry}
-use Rattle.mining.specs.Writing.{laid, Wrote, WroteTree, WroteAll}
+use Rattle.writing.specs.Writing.{laid, Wrote, WroteTree, WroteAll}
 
 -- nothing written
 pub laid-nil : (at : ℕ) (b : List ℕ) → laid at [] b ≡ b
@@ -154,23 +154,6 @@ module _ (p : ℕ → Bool) (all : List ℕ) (goal next c : ℕ) (tree : List �
   pub leaves-last : 32 ≤ c → next ≡ goal
   leaves-last h = omega (arith, ap length (codes-none p c h))
 
--- how many codes a set has
-keep-count : (n i : ℕ) (p : ℕ → Bool) → length (keep p (from i n)) ≡ count n (λ j. p (i + j))
-unfolding count
-keep-count zero i p = refl
-keep-count (suc n) i p =
-    pushed (p i) i (keep p (from (suc i) n))
-    ∙ ap₂ (λ (a b : ℕ). a + b) (ap (λ (k : ℕ). cond (p k) 1 0) (sym (add-zero i)))
-    (keep-count n (suc i) p ∙ ap (count n) (fun-ext (λ (j : ℕ). ap p (suc-add i j ∙ sym (add-suc i j)))))
-  where
-    pushed : (b : Bool) (x : ℕ) (xs : List ℕ) → length (push b x xs) ≡ cond b 1 0 + length xs
-    pushed true x xs = omega arith
-    pushed false x xs = omega arith
-
-pub listed-count : (m x : ℕ) → length (listed m x) ≡ count m (has x)
-unfolding listed
-listed-count m x = keep-count m 0 (has x) ∙ ap (count m) (fun-ext (λ (j : ℕ). ap (has x) (zero-add j)))
-
 -- ---- a flower: the loop's entry, silent, the leaves
 
 module _ (cs : List ℕ) (n : ℕ) (size : n ≡ length cs) (at : ℕ) (old b₁ b₂ new : List ℕ) (r : ℕ) (long : length old ≡ 512) (fits : at + length cs + 2 ≤ 127) where
@@ -191,15 +174,3 @@ module _ (cs : List ℕ) (n : ℕ) (size : n ≡ length cs) (at : ℕ) (old b₁
             ∙ sym (wrote-next first refl (omega arith) (entry 1 0 1 ++ ls))
             ∙ (λ i. laid (at * 4) (entry 6 (kids i) (nodes i) ++ (entry 1 0 1 ++ ls)) old);
       }
-
--- one byte more cleared
-pub clear-next : (b new : List ℕ) (i : ℕ) → i < length b → new ≡ zeros i ++ drop i b → set new i 0 ≡ zeros (i + 1) ++ drop (i + 1) b
-unfolding zeros
-clear-next b new i h e =
-    let f : length {A = ℕ} (replicate i 0) ≡ i = length-replicate i 0 in
-    ap (λ (l : List ℕ). set l i 0) (e ∙ ap (λ (l : List ℕ). replicate i 0 ++ l) (drop-cons b i 0 h))
-    ∙ ap (λ (k : ℕ). set (replicate i 0 ++ (getD b i 0 ∷ drop (suc i) b)) k 0) (sym f)
-    ∙ set-append-seam (replicate i 0) (getD b i 0) (drop (suc i) b) 0
-    ∙ sym (append-assoc (replicate i 0) (0 ∷ []) (drop (suc i) b))
-    ∙ ap (λ (l : List ℕ). l ++ drop (suc i) b) (replicate-append-replicate i 1 0)
-    ∙ ap (λ (k : ℕ). replicate (i + 1) 0 ++ drop k b) (sym (add-one i))

@@ -1,11 +1,11 @@
 use mathlib.Core.Path.{sym, _∙_}
 use Rattle.codes.specs.Bits.{has, listed}
 use Rattle.graphs.specs.Edges.{edgeOf}
-use Rattle.mining.proofs.WritingLaws.{listed-count}
-use Rattle.mining.proofs.BaseLaws.{alone-one, alone-not}
+use Rattle.planning.proofs.CountLaws.{listed-count}
+use Rattle.planning.proofs.CountLaws.{alone-one, alone-not}
 use borrow.Author.Needs.{needs}
-use Rattle.mining.proofs.alone.Statement.{statement}
-use Rattle.mining.proofs.alone.Tie as tie
+use Rattle.planning.proofs.alone.Statement.{statement}
+use Rattle.planning.proofs.alone.Tie as tie
 
 count-requires : tie.Need-count-requires
 count-requires c κs = search needs

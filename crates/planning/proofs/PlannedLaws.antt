@@ -29,9 +29,9 @@ use Rattle.cuts.specs.Cuts.{Inside, cutElse, cutShape, CutOf}
 use Rattle.views.specs.declared.View.{View}
 use Rattle.views.specs.Sublogs.{sight, sublog, Tight, partSight, drawn}
 use Rattle.views.proofs.TightLaws.{tight-graph}
-use Rattle.mining.specs.Plans.{lone, baseShape, Told, CutPlan, Planned}
-use Rattle.mining.specs.declared.Plan.{Plan}
-use Rattle.mining.proofs.PlanLaws.{plan-silent, plan-flower, plan-rest}
+use Rattle.planning.specs.Plans.{lone, baseShape, Told, CutPlan, Planned}
+use Rattle.planning.specs.declared.Plan.{Plan}
+use Rattle.planning.proofs.PlanLaws.{plan-silent, plan-flower, plan-rest}
 
 -- a set that is not empty has a code
 some-code : (x : ℕ) → x < 2 ^ 32 → (x ≡ 0 → ⊥) → (c : ℕ) × (has x c ≡ true)

@@ -2,20 +2,18 @@
 use mathlib.Core.Path.{_≡_}
 use mathlib.Core.List.{List, [], _∷_}
 use mathlib.Core.Bool.{Bool, false, not}
-use Prim.Native.Nat.{ℕ, _+_, _≤_, _<_}
+use Prim.Native.Nat.{ℕ, _≤_, _<_}
 use lib.Dec.{eqb}
 use lib.ListN.{length, take, getD}
 use Rattle.rules.specs.Words.{pick, each}
-use Rattle.rules.specs.Trees.{Op, Tree, silent, leaf, size}
-use Rattle.rules.specs.Mining.{Log, Rel, Shape, nothing, single, flower, cut, shape, headOf, flowerOf, mined}
+use Rattle.rules.specs.Trees.{Op, Tree, silent, leaf}
+use Rattle.rules.specs.Mining.{Log, Rel, Shape, nothing, single, flower, cut, shape, headOf, flowerOf}
 use Rattle.rules.specs.TreeBlock.{kindOf}
-use Rattle.rules.specs.Calls.{logSound}
-use Rattle.rules.specs.declared.Answer.the-variants.{Gives}
 use Rattle.codes.specs.Bits.{has, listed}
 use Rattle.tables.specs.declared.Parts.{Parts}
 use Rattle.views.specs.declared.View.{View}
 use Rattle.views.specs.Sublogs.{sight, sublog, Tight, partSight}
-use Rattle.mining.specs.declared.Plan.{Plan}
+use Rattle.planning.specs.declared.Plan.{Plan}
 
 -- one code, and it never follows itself
 abbrev pub lone : Rel → List ℕ → Bool
@@ -48,13 +46,3 @@ pub record Planned (l : Log) (v : View) (r : Plan) : Type 0 where
   pub base : Tight 32 (sight v) l → r .kind < 3 → shape 32 (sublog v l) ≡ baseShape (r .kind) (listed 32 (v .keep .bits))
   pub told : Told l v r
   pub cuts : Tight 32 (sight v) l → 3 ≤ r .kind → (o : Op) × (kindOf o ≡ r .kind) × (shape 32 (sublog v l) ≡ cut o (each (listed 32) (take (r .n) (r .sets))))
-
--- a view that may be mined from an entry on: it is tight, and its tree ends by entry 127
-pub record Ready (l : Log) (v : View) (tree : List ℕ) (at : ℕ) : Type 0 where
-  pub tight : Tight 32 (sight v) l
-  pub long : length tree ≡ 512
-  pub room : at + size (mined 32 (sublog v l)) ≤ 127
-
--- a log that no refusal of its own is due to
-abbrev pub SoundLog : List ℕ → Type 0
-SoundLog log = (end : ℕ) × (logSound 1 log ≡ Gives end)

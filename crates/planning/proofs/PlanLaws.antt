@@ -17,7 +17,7 @@ use Rattle.rules.proofs.Shapes.{empty-is}
 use Rattle.rules.proofs.Recursion.{mined-is}
 use Rattle.views.specs.Sublogs.{Sight, shown, Tight}
 use Rattle.views.proofs.TightLaws.{shown-kept, shown-bare, shown-full, tight-below}
-use Rattle.mining.specs.Plans.{lone, baseShape, baseTree}
+use Rattle.planning.specs.Plans.{lone, baseShape, baseTree}
 
 -- ---- one code: only episodes of one event where it never follows itself
 

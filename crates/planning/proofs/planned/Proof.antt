@@ -1,9 +1,9 @@
 use Rattle.rules.specs.LogBlock.{logEpisodes}
 use Rattle.tables.proofs.TableLaws.{owned-field}
-use Rattle.mining.proofs.PlannedLaws.{planned-silent, planned-flower, planned-leaf, planned-cut}
+use Rattle.planning.proofs.PlannedLaws.{planned-silent, planned-flower, planned-leaf, planned-cut}
 use borrow.Author.Needs.{needs}
-use Rattle.mining.proofs.planned.Statement.{statement}
-use Rattle.mining.proofs.planned.Tie as tie
+use Rattle.planning.proofs.planned.Statement.{statement}
+use Rattle.planning.proofs.planned.Tie as tie
 
 uncut-requires : tie.Need-uncut-requires
 uncut-requires c κs = search needs

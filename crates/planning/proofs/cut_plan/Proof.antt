@@ -3,10 +3,10 @@ use Prim.Native.Nat.{_-_}
 use native.Mathlib.Omega.{arith}
 use Rattle.rules.specs.LogBlock.{logEpisodes}
 use Rattle.tables.proofs.TableLaws.{owned-field}
-use Rattle.mining.proofs.PlannedLaws.{cut-told}
+use Rattle.planning.proofs.PlannedLaws.{cut-told}
 use borrow.Author.Needs.{needs}
-use Rattle.mining.proofs.cut_plan.Statement.{statement}
-use Rattle.mining.proofs.cut_plan.Tie as tie
+use Rattle.planning.proofs.cut_plan.Statement.{statement}
+use Rattle.planning.proofs.cut_plan.Tie as tie
 
 sub-missed-parts : tie.Need-sub-missed-parts
 sub-missed-parts c = search needs

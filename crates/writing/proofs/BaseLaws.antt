@@ -1,7 +1,7 @@
--- What has no cut: silent, a leaf, a flower, and how one code alone is told.
+-- What has no cut: silent, a leaf, a flower.
 use mathlib.Core.Path.{_≡_, refl, sym, _∙_, ap, subst}
 use mathlib.Core.List.{List, [], _∷_}
-use mathlib.Core.Bool.{Bool, false, not}
+use mathlib.Core.Bool.{Bool}
 use Prim.Native.Nat.{ℕ, _+_, _-_, _≤_, _<_}
 use native.Mathlib.Omega.{arith}
 use lib.Dec.{eqb}
@@ -9,12 +9,12 @@ use lib.ListN.{length}
 use borrow.Author.Tests.{eq-eqb, ne-eqb}
 use Rattle.rules.specs.Words.{pick}
 use Rattle.rules.specs.Trees.{Tree, silent, leaf, size}
-use Rattle.rules.specs.Mining.{Rel, headOf, flowerOf}
+use Rattle.rules.specs.Mining.{headOf, flowerOf}
 use Rattle.rules.specs.TreeBlock.{entries}
 use Rattle.trees.specs.Writing.{withEntry}
-use Rattle.mining.specs.Writing.{WroteTree}
-use Rattle.mining.specs.Plans.{lone, baseTree}
-use Rattle.mining.proofs.WritingLaws.{put-wrote, leaves-sizes}
+use Rattle.writing.specs.Writing.{WroteTree}
+use Rattle.planning.specs.Plans.{baseTree}
+use Rattle.writing.proofs.WritingLaws.{put-wrote, leaves-sizes}
 
 module _ (kind at : ℕ) (cs : List ℕ) (fits : at + size (baseTree kind cs) ≤ 127) where
   silent-is : kind ≡ 1 → silent ≡ baseTree kind cs
@@ -48,21 +48,3 @@ module _ (kind at : ℕ) (cs : List ℕ) (fits : at + size (baseTree kind cs) �
 
     pub base-flower : (kind ≡ 1 → ⊥) → (kind ≡ 2 → ⊥) → (r : ℕ) → WroteTree (flowerOf cs) at old r new → WroteTree (baseTree kind cs) at old r new
     base-flower f g r w = subst (λ (t : Tree). WroteTree t at old r new) (flower-is f g) w
-
--- ---- one code alone
-module _ (e : Rel) (cs : List ℕ) where
-  pub alone-one : length cs ≡ 1 → (c : ℕ) → c ≡ headOf cs → (t : Bool) → t ≡ e c c → not t ≡ lone e cs
-  alone-one h c q t f = by cs h q
-    where
-      by : (xs : List ℕ) → length xs ≡ 1 → c ≡ headOf xs → not t ≡ lone e xs
-      by [] n z = absurd (omega arith)
-      by (a ∷ []) n z = ap not (f ∙ ap (λ (x : ℕ). e x x) z)
-      by (a ∷ b ∷ xs) n z = absurd (omega arith)
-
-  pub alone-not : (length cs ≡ 1 → ⊥) → false ≡ lone e cs
-  alone-not h = by cs h
-    where
-      by : (xs : List ℕ) → (length xs ≡ 1 → ⊥) → false ≡ lone e xs
-      by [] n = refl
-      by (a ∷ []) n = absurd (n refl)
-      by (a ∷ b ∷ xs) n = refl

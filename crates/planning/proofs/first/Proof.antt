@@ -2,8 +2,8 @@ use mathlib.Core.Path.{_∙_}
 use native.Mathlib.Omega.{arith}
 use Rattle.cuts.proofs.OrderLaws.{head-least, head-none}
 use borrow.Author.Needs.{needs}
-use Rattle.mining.proofs.first.Statement.{statement}
-use Rattle.mining.proofs.first.Tie as tie
+use Rattle.planning.proofs.first.Statement.{statement}
+use Rattle.planning.proofs.first.Tie as tie
 
 smallest-requires : tie.Need-smallest-requires
 smallest-requires c κs = search needs

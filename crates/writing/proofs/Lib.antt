@@ -1,0 +1,2 @@
+pub mod WritingLaws
+pub mod BaseLaws
