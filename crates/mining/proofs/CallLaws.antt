@@ -19,7 +19,7 @@ use Rattle.rules.proofs.MinedTree.{mined-fits}
 use Rattle.views.specs.declared.View.{View}
 use Rattle.views.specs.Sublogs.{Sight, shown, sight, sublog, Tight, rootSight}
 use Rattle.views.proofs.TightLaws.{root-tight, root-tree}
-use Rattle.writing.specs.Writing.{laid}
+use Rattle.bases.specs.Writing.{laid}
 use Rattle.mining.specs.Ready.{Ready}
 
 -- ---- the refusals, by the tests that lead to each

@@ -21,10 +21,10 @@ use Rattle.trees.specs.Writing.{withEntry}
 use Rattle.views.specs.declared.View.{View}
 use Rattle.views.specs.Sublogs.{Sight, shown, sight, sublog, Tight, partSight}
 use Rattle.views.proofs.TightLaws.{tight-below, part-shows, part-tight, part-tree}
-use Rattle.writing.specs.Writing.{laid, WroteTree}
+use Rattle.bases.specs.Writing.{laid, WroteTree}
 use Rattle.planning.specs.Plans.{baseShape, baseTree}
 use Rattle.mining.specs.Ready.{Ready}
-use Rattle.writing.proofs.WritingLaws.{laid-nil, laid-before, wrote-length, wrote-next}
+use Rattle.bases.proofs.WritingLaws.{laid-nil, laid-before, wrote-length, wrote-next}
 use Rattle.planning.proofs.PlanLaws.{tree-base, tree-cut}
 
 -- the first n of some sets, from the i-th on, as the rules have them

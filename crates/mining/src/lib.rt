@@ -13,7 +13,7 @@ ghost use Rattle.rules.specs.LogBlock.{logEpisodes};
 ghost use Rattle.rules.specs.TreeBlock.{treeBlock};
 ghost use Rattle.rules.specs.Calls.{treeOf, MineSays};
 ghost use Rattle.views.specs.Sublogs.{sublog};
-ghost use Rattle.writing.specs.Writing.{WroteTree};
+ghost use Rattle.bases.specs.Writing.{WroteTree};
 ghost use Rattle.mining.specs.Ready.{Ready, SoundLog};
 
 // The first n bytes become zero.
@@ -37,7 +37,7 @@ fn mine_node(log: &[u8], tree: &mut [u8], v: View, at: usize) -> usize
     let kind = plan.kind;
     if kind < 3 {
         let keep = v.keep;
-        return writing::base(tree, at, kind, keep);
+        return bases::base(tree, at, kind, keep);
     }
     let n = plan.n;
     let mut next = at + 1;
@@ -48,7 +48,7 @@ fn mine_node(log: &[u8], tree: &mut [u8], v: View, at: usize) -> usize
         next = mine_node(log, tree, w, next);
         i += 1;
     }
-    trees::put(tree, at, kind, writing::byte(n), writing::byte(next - at));
+    trees::put(tree, at, kind, bases::byte(n), bases::byte(next - at));
     next
 }
 

@@ -8,7 +8,7 @@ use Rattle.rules.specs.LogBlock.{logEpisodes}
 use Rattle.rules.specs.TreeBlock.{kindOf}
 use Rattle.codes.specs.Bits.{listed}
 use Rattle.views.specs.Sublogs.{sight, sublog, partSight}
-use Rattle.writing.specs.Writing.{WroteTree}
+use Rattle.bases.specs.Writing.{WroteTree}
 use Rattle.planning.proofs.PlannedLaws.{missed-bit}
 use Rattle.mining.proofs.NodeLaws.{restOf, Growing, node-base, node-start, node-room, node-next, node-wrote, child-fewer, child-ready, child-next, child-long}
 use Prim.Native.Nat.{ℕ, _-_, _<_, _≤_}
@@ -17,8 +17,8 @@ use borrow.Fn.PlainCycle.{Measures, is, falls, and}
 use Rattle.mining.proofs.mine_node.Reads as mine-node
 use Rattle.mining.proofs.mine_node.Kinds as mine-node-kinds
 use Rattle.mining.proofs.+mine_node.Lts-mine_node as mine-node-lts
-use Rattle.writing.proofs.base.Reads as base-reads
-use Rattle.writing.proofs.byte.Reads as byte-reads
+use Rattle.bases.proofs.base.Reads as base-reads
+use Rattle.bases.proofs.byte.Reads as byte-reads
 use Rattle.planning.proofs.planned.Reads as planned-reads
 use Rattle.trees.proofs.put.Reads as put-reads
 use Rattle.views.proofs.part_of.Reads as part-of-reads

@@ -2,10 +2,10 @@ use mathlib.Core.Path.{sym, _∙_}
 use native.Mathlib.Omega.{arith}
 use Rattle.codes.specs.Bits.{listed}
 use Rattle.planning.proofs.CountLaws.{listed-count}
-use Rattle.writing.proofs.WritingLaws.{flower-wrote}
+use Rattle.bases.proofs.WritingLaws.{flower-wrote}
 use borrow.Author.Needs.{needs}
-use Rattle.writing.proofs.flower.Statement.{statement}
-use Rattle.writing.proofs.flower.Tie as tie
+use Rattle.bases.proofs.flower.Statement.{statement}
+use Rattle.bases.proofs.flower.Tie as tie
 
 count-requires : tie.Need-count-requires
 count-requires c κs = search needs

@@ -1,9 +1,9 @@
 use Prim.Native.Nat.{_-_}
 use Rattle.codes.specs.Bits.{has}
-use Rattle.writing.proofs.WritingLaws.{leaf-fits, leaf-put, leaf-off}
+use Rattle.bases.proofs.WritingLaws.{leaf-fits, leaf-put, leaf-off}
 use borrow.Author.Needs.{needs}
-use Rattle.writing.proofs.leaf_of.Statement.{statement}
-use Rattle.writing.proofs.leaf_of.Tie as tie
+use Rattle.bases.proofs.leaf_of.Statement.{statement}
+use Rattle.bases.proofs.leaf_of.Tie as tie
 
 has-requires : tie.Need-has-requires
 has-requires c κs = search needs

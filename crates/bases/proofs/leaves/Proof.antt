@@ -5,11 +5,11 @@ use lib.ListN.{length}
 use Rattle.rules.specs.Mining.{leaves}
 use Rattle.rules.specs.TreeBlock.{entriesAll}
 use Rattle.codes.specs.Bits.{has, listed}
-use Rattle.writing.specs.Writing.{laid}
-use Rattle.writing.proofs.WritingLaws.{codesFrom, leaf-room, leaf-next, leaf-count, leaf-long, leaves-end, leaves-last, leaves-sizes}
+use Rattle.bases.specs.Writing.{laid}
+use Rattle.bases.proofs.WritingLaws.{codesFrom, leaf-room, leaf-next, leaf-count, leaf-long, leaves-end, leaves-last, leaves-sizes}
 use borrow.Author.Needs.{needs}
-use Rattle.writing.proofs.leaves.Statement.{statement}
-use Rattle.writing.proofs.leaves.Tie as tie
+use Rattle.bases.proofs.leaves.Statement.{statement}
+use Rattle.bases.proofs.leaves.Tie as tie
 
 abbrev Inv-loop : tie.InvT-loop
 Inv-loop tree₀ at set next₀ c₀ tree next c = (laid (at * 4) (entriesAll (leaves (listed 32 (set .bits)))) tree₀ ≡ laid (next * 4) (entriesAll (leaves (codesFrom (has (set .bits)) c))) tree) × (at + length (listed 32 (set .bits)) ≡ next + length (codesFrom (has (set .bits)) c)) × (length tree ≡ 512) × (c ≤ 32)

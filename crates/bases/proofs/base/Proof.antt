@@ -1,8 +1,8 @@
 use Rattle.codes.specs.Bits.{listed}
-use Rattle.writing.proofs.BaseLaws.{silent-fits, leaf-fits, flower-fits, base-silent, base-leaf, base-flower}
+use Rattle.bases.proofs.BaseLaws.{silent-fits, leaf-fits, flower-fits, base-silent, base-leaf, base-flower}
 use borrow.Author.Needs.{needs}
-use Rattle.writing.proofs.base.Statement.{statement}
-use Rattle.writing.proofs.base.Tie as tie
+use Rattle.bases.proofs.base.Statement.{statement}
+use Rattle.bases.proofs.base.Tie as tie
 
 put-requires : tie.Need-put-requires
 put-requires c κs =

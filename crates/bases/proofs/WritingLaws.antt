@@ -15,7 +15,7 @@ use Rattle.rules.specs.TreeBlock.{entry, entries, entriesAll}
 use Rattle.rules.proofs.Entries.{entriesAll-length}
 use Rattle.codes.specs.Bits.{has, listed}
 use Rattle.trees.specs.Writing.{withEntry}
-use Rattle.writing.specs.Writing.{laid, Wrote, WroteTree, WroteAll}
+use Rattle.bases.specs.Writing.{laid, Wrote, WroteTree, WroteAll}
 
 -- nothing written
 pub laid-nil : (at : ℕ) (b : List ℕ) → laid at [] b ≡ b

@@ -12,9 +12,9 @@ use Rattle.rules.specs.Trees.{Tree, silent, leaf, size}
 use Rattle.rules.specs.Mining.{headOf, flowerOf}
 use Rattle.rules.specs.TreeBlock.{entries}
 use Rattle.trees.specs.Writing.{withEntry}
-use Rattle.writing.specs.Writing.{WroteTree}
+use Rattle.bases.specs.Writing.{WroteTree}
 use Rattle.planning.specs.Plans.{baseTree}
-use Rattle.writing.proofs.WritingLaws.{put-wrote, leaves-sizes}
+use Rattle.bases.proofs.WritingLaws.{put-wrote, leaves-sizes}
 
 module _ (kind at : ℕ) (cs : List ℕ) (fits : at + size (baseTree kind cs) ≤ 127) where
   silent-is : kind ≡ 1 → silent ≡ baseTree kind cs

@@ -9,7 +9,7 @@ ghost use Rattle.rules.specs.Trees.{size};
 ghost use Rattle.rules.specs.Mining.{leaves, flowerOf};
 ghost use Rattle.codes.specs.Bits.{has, listed};
 ghost use Rattle.planning.specs.Plans.{baseTree};
-ghost use Rattle.writing.specs.Writing.{WroteTree, WroteAll};
+ghost use Rattle.bases.specs.Writing.{WroteTree, WroteAll};
 
 // A number below 256 as a byte.
 pub fn byte(n: usize) -> u8
