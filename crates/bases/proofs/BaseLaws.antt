@@ -11,7 +11,7 @@ use Rattle.rules.specs.Words.{pick}
 use Rattle.rules.specs.Trees.{Tree, silent, leaf, size}
 use Rattle.rules.specs.Mining.{headOf, flowerOf}
 use Rattle.rules.specs.TreeBlock.{entries}
-use Rattle.trees.specs.Writing.{withEntry}
+use Rattle.entries.specs.Writing.{withEntry}
 use Rattle.bases.specs.Writing.{WroteTree}
 use Rattle.planning.specs.Plans.{baseTree}
 use Rattle.bases.proofs.WritingLaws.{put-wrote, leaves-sizes}

@@ -14,7 +14,7 @@ use Rattle.rules.specs.Mining.{leaves, flowerOf}
 use Rattle.rules.specs.TreeBlock.{entry, entries, entriesAll}
 use Rattle.rules.proofs.Entries.{entriesAll-length}
 use Rattle.codes.specs.Bits.{has, listed}
-use Rattle.trees.specs.Writing.{withEntry}
+use Rattle.entries.specs.Writing.{withEntry}
 use Rattle.bases.specs.Writing.{laid, Wrote, WroteTree, WroteAll}
 
 -- nothing written

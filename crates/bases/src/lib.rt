@@ -25,7 +25,7 @@ fn leaf_of(tree: &mut [u8], at: usize, set: CodeSet, c: u8) -> usize
     ensures { λ r. ⌜ WroteAll (leaves (push (has (set .bits) c) c [])) at (now (tree .entry)) r (now (tree .exit)) ⌝ }
 {
     if set.has(c) {
-        trees::put(tree, at, 2, c, 1);
+        entries::put(tree, at, 2, c, 1);
         return at + 1;
     }
     at
@@ -51,8 +51,8 @@ fn flower(tree: &mut [u8], at: usize, set: CodeSet) -> usize
     ensures { λ r. ⌜ WroteTree (flowerOf (listed 32 (set .bits))) at (now (tree .entry)) r (now (tree .exit)) ⌝ }
 {
     let n = set.count() as usize;
-    trees::put(tree, at, 6, byte(n + 1), byte(n + 2));
-    trees::put(tree, at + 1, 1, 0, 1);
+    entries::put(tree, at, 6, byte(n + 1), byte(n + 2));
+    entries::put(tree, at + 1, 1, 0, 1);
     leaves(tree, at + 2, set)
 }
 
@@ -62,12 +62,12 @@ pub fn base(tree: &mut [u8], at: usize, kind: u8, set: CodeSet) -> usize
     ensures { λ r. ⌜ WroteTree (baseTree kind (listed 32 (set .bits))) at (now (tree .entry)) r (now (tree .exit)) ⌝ }
 {
     if kind == 1 {
-        trees::put(tree, at, 1, 0, 1);
+        entries::put(tree, at, 1, 0, 1);
         return at + 1;
     }
     if kind == 2 {
         let c = planning::first(set);
-        trees::put(tree, at, 2, c, 1);
+        entries::put(tree, at, 2, c, 1);
         return at + 1;
     }
     flower(tree, at, set)

@@ -3,11 +3,11 @@
 // M11: loop(sequence(a, b), c)
 pub fn m11() -> [u8; 512] {
     let mut tree = [0u8; 512];
-    trees::put(&mut tree, 0, 6, 2, 5);
-    trees::put(&mut tree, 1, 4, 2, 3);
-    trees::put(&mut tree, 2, 2, 0, 1);
-    trees::put(&mut tree, 3, 2, 1, 1);
-    trees::put(&mut tree, 4, 2, 2, 1);
+    entries::put(&mut tree, 0, 6, 2, 5);
+    entries::put(&mut tree, 1, 4, 2, 3);
+    entries::put(&mut tree, 2, 2, 0, 1);
+    entries::put(&mut tree, 3, 2, 1, 1);
+    entries::put(&mut tree, 4, 2, 2, 1);
     seals::seal(&mut tree);
     tree
 }
@@ -15,13 +15,13 @@ pub fn m11() -> [u8; 512] {
 // J2's tree: loop(sequence(a, b), loop(silent, c))
 pub fn j2() -> [u8; 512] {
     let mut tree = [0u8; 512];
-    trees::put(&mut tree, 0, 6, 2, 7);
-    trees::put(&mut tree, 1, 4, 2, 3);
-    trees::put(&mut tree, 2, 2, 0, 1);
-    trees::put(&mut tree, 3, 2, 1, 1);
-    trees::put(&mut tree, 4, 6, 2, 3);
-    trees::put(&mut tree, 5, 1, 0, 1);
-    trees::put(&mut tree, 6, 2, 2, 1);
+    entries::put(&mut tree, 0, 6, 2, 7);
+    entries::put(&mut tree, 1, 4, 2, 3);
+    entries::put(&mut tree, 2, 2, 0, 1);
+    entries::put(&mut tree, 3, 2, 1, 1);
+    entries::put(&mut tree, 4, 6, 2, 3);
+    entries::put(&mut tree, 5, 1, 0, 1);
+    entries::put(&mut tree, 6, 2, 2, 1);
     seals::seal(&mut tree);
     tree
 }
@@ -29,11 +29,11 @@ pub fn j2() -> [u8; 512] {
 // choice(a, parallel(b, c)), for the kinds that the sheet's J rows do not have
 pub fn mixed() -> [u8; 512] {
     let mut tree = [0u8; 512];
-    trees::put(&mut tree, 0, 3, 2, 5);
-    trees::put(&mut tree, 1, 2, 0, 1);
-    trees::put(&mut tree, 2, 5, 2, 3);
-    trees::put(&mut tree, 3, 2, 1, 1);
-    trees::put(&mut tree, 4, 2, 2, 1);
+    entries::put(&mut tree, 0, 3, 2, 5);
+    entries::put(&mut tree, 1, 2, 0, 1);
+    entries::put(&mut tree, 2, 5, 2, 3);
+    entries::put(&mut tree, 3, 2, 1, 1);
+    entries::put(&mut tree, 4, 2, 2, 1);
     seals::seal(&mut tree);
     tree
 }

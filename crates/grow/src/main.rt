@@ -3,7 +3,7 @@ use rules::Answer;
 
 fn refuse(number: u8, place: usize) {
     let mut line = [0u8; 21];
-    let k = listing::write_refusal(number, place, &mut line);
+    let k = replies::write_refusal(number, place, &mut line);
     io::write_all(2, &line[..k]);
 }
 

@@ -1,3 +1,2 @@
-pub mod Laws
-pub mod Decimal
+pub mod NameLaws
 pub mod Lines

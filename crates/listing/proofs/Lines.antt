@@ -1,25 +1,21 @@
 -- The lines of the texts, from the writes of their pieces.
-use mathlib.Core.Path.{_≡_, refl, sym, ap, _∙_, subst}
+use mathlib.Core.Path.{_≡_, sym, ap, _∙_, subst}
 use mathlib.Core.List.{List, [], _∷_, _++_, append-assoc, append-nil}
-use mathlib.Core.Bool.{Bool, true, false}
-use Prim.Native.Nat.{ℕ, zero, suc, _+_, _*_, _≤_, _<_}
-use native.Mathlib.Nat.{add-suc, suc-add}
+use Prim.Native.Nat.{ℕ, zero, suc, _+_, _*_, _≤_}
 use native.Mathlib.Numerals.{add-one}
 use native.Mathlib.Omega.{arith}
 use lib.ListN.{length}
 use Rattle.rules.specs.TreeBlock.{kindAt, argumentAt, sizeAt}
-use Rattle.rules.specs.Listing.{decimal, kindName, entryNumbers, entryLine, entryLines, listing, refusalLine, verdictLine}
-use Rattle.listing.specs.Writing.{Wrote}
-use Rattle.listing.proofs.Laws.{wrote-nothing, wrote-then, wrote-most}
+use Rattle.rules.specs.Listing.{decimal, kindName, entryNumbers, entryLine, entryLines, listing}
+use Rattle.writing.specs.Writing.{Wrote}
+use Rattle.writing.proofs.WroteLaws.{wrote-nothing, wrote-then, wrote-most}
 
 module _ {old new : List ℕ} {at r : ℕ} where
-  pub entry-numbers : (argument size : ℕ) {o1 o2 o3 : List ℕ} {p1 p2 p3 a s : ℕ} → at + 8 ≤ length old →
-      a ≡ argument → Wrote 3 old at (decimal 3 a) o1 p1 → Wrote 1 o1 p1 (32 ∷ []) o2 p2 → s ≡ size → Wrote 3 o2 p2 (decimal 3 s) o3 p3 → Wrote 1 o3 p3 (10 ∷ []) new r →
+  pub entry-numbers : (argument size : ℕ) {o1 o2 o3 : List ℕ} {p1 p2 p3 : ℕ} → at + 8 ≤ length old →
+      Wrote 3 old at (decimal 3 argument) o1 p1 → Wrote 1 o1 p1 (32 ∷ []) o2 p2 → Wrote 3 o2 p2 (decimal 3 size) o3 p3 → Wrote 1 o3 p3 (10 ∷ []) new r →
       Wrote 8 old at (entryNumbers argument size) new r
   unfolding entryNumbers
-  entry-numbers argument size room ea a b es c d =
-      let s = wrote-then (wrote-then (wrote-then a (omega arith) b) (omega arith) c) (omega arith) d in
-      rw (← ea, ← es) s
+  entry-numbers argument size room a b c d = wrote-then (wrote-then (wrote-then a (omega arith) b) (omega arith) c) (omega arith) d
 
   pub entry-line : (b : List ℕ) (v : ℕ) {o1 o2 : List ℕ} {p1 p2 : ℕ} → at + 17 ≤ length old →
       Wrote 3 old at (decimal 3 v) o1 p1 → Wrote 6 o1 p1 (kindName (kindAt b v)) o2 p2 → Wrote 8 o2 p2 (entryNumbers (argumentAt b v) (sizeAt b v)) new r →
@@ -27,31 +23,12 @@ module _ {old new : List ℕ} {at r : ℕ} where
   unfolding entryLine
   entry-line b v room a k c = wrote-then (wrote-then a (omega arith) k) (omega arith) c
 
-  pub refusal-line : {o1 o2 o3 o4 : List ℕ} {p1 p2 p3 p4 wide : ℕ} (number place : ℕ) → at + 21 ≤ length old →
-      Wrote 8 old at (114 ∷ 101 ∷ 102 ∷ 117 ∷ 115 ∷ 101 ∷ 100 ∷ 32 ∷ []) o1 p1 → wide ≡ number → Wrote 3 o1 p1 (decimal 3 wide) o2 p2 →
-      Wrote 4 o2 p2 (32 ∷ 97 ∷ 116 ∷ 32 ∷ []) o3 p3 → Wrote 5 o3 p3 (decimal 5 place) o4 p4 → Wrote 1 o4 p4 (10 ∷ []) new r →
-      Wrote 21 old at (refusalLine number place) new r
-  unfolding refusalLine
-  refusal-line number place room a e b c d f =
-      let s = wrote-then (wrote-then (wrote-then (wrote-then a (omega arith) b) (omega arith) c) (omega arith) d) (omega arith) f in
-      rw (← e) s
-
   pub listing-text : (b : List ℕ) (n : ℕ) {o1 o2 o3 : List ℕ} {p1 p2 p3 : ℕ} → n ≤ 127 → at + 2169 ≤ length old →
       Wrote 6 old at (110 ∷ 111 ∷ 100 ∷ 101 ∷ 115 ∷ 32 ∷ []) o1 p1 → Wrote 3 o1 p1 (decimal 3 n) o2 p2 → Wrote 1 o2 p2 (10 ∷ []) o3 p3 →
       Wrote (17 * n) o3 p3 (entryLines n b 0) new r → Wrote 2169 old at (listing b n) new r
   unfolding listing
   listing-text b n few room a c d e =
       wrote-most (wrote-then (wrote-then (wrote-then a (omega arith) c) (omega arith) d) (omega arith) e) (omega arith) 2169 (omega arith)
-
-  pub fits-line : {o1 : List ℕ} {p1 : ℕ} (n : ℕ) (b : Bool) → b ≡ true → at + 13 ≤ length old →
-      Wrote 5 old at (decimal 5 n) o1 p1 → Wrote 6 o1 p1 (32 ∷ 102 ∷ 105 ∷ 116 ∷ 115 ∷ 10 ∷ []) new r → Wrote 13 old at (verdictLine n b) new r
-  unfolding verdictLine
-  fits-line n b e room a c = rw e (wrote-most (wrote-then a (omega arith) c) (omega arith) 13 (omega arith))
-
-  pub misfit-line : {o1 : List ℕ} {p1 : ℕ} (n : ℕ) (b : Bool) → b ≡ false → at + 13 ≤ length old →
-      Wrote 5 old at (decimal 5 n) o1 p1 → Wrote 8 o1 p1 (32 ∷ 109 ∷ 105 ∷ 115 ∷ 102 ∷ 105 ∷ 116 ∷ 10 ∷ []) new r → Wrote 13 old at (verdictLine n b) new r
-  unfolding verdictLine
-  misfit-line n b e room a c = rw e (wrote-then a (omega arith) c)
 
 -- one line more
 lines-snoc : (n : ℕ) (b : List ℕ) (v : ℕ) → entryLines (suc n) b v ≡ entryLines n b v ++ entryLine b (v + n)

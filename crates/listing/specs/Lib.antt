@@ -1,1 +1,1 @@
-pub mod Writing
+pub mod Names

@@ -17,7 +17,7 @@ use Rattle.rules.proofs.Splits.{split-occurring}
 use Rattle.rules.proofs.SameEpisodes.{occurring-same}
 use Rattle.rules.proofs.Shapes.{Taken, cut-taken, smaller}
 use Rattle.codes.specs.Bits.{has, listed}
-use Rattle.trees.specs.Writing.{withEntry}
+use Rattle.entries.specs.Writing.{withEntry}
 use Rattle.views.specs.declared.View.{View}
 use Rattle.views.specs.Sublogs.{Sight, shown, sight, sublog, Tight, partSight}
 use Rattle.views.proofs.TightLaws.{tight-below, part-shows, part-tight, part-tree}

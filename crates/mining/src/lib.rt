@@ -48,7 +48,7 @@ fn mine_node(log: &[u8], tree: &mut [u8], v: View, at: usize) -> usize
         next = mine_node(log, tree, w, next);
         i += 1;
     }
-    trees::put(tree, at, kind, bases::byte(n), bases::byte(next - at));
+    entries::put(tree, at, kind, bases::byte(n), bases::byte(next - at));
     next
 }
 

@@ -17,8 +17,8 @@ use Rattle.rules.specs.declared.Answer.the-variants.{Gives, Refused}
 use Rattle.rules.proofs.AnswerLaws.{demand-given}
 use Rattle.rules.proofs.MinedTree.{mined-fits}
 use Rattle.episodes.proofs.EpisodeLaws.{log-codes}
-use Rattle.listing.specs.Writing.{Wrote}
-use Rattle.listing.proofs.Laws.{wrote-most}
+use Rattle.writing.specs.Writing.{Wrote}
+use Rattle.writing.proofs.WroteLaws.{wrote-most}
 use Rattle.printing.specs.Mined.{Listable, answerText}
 
 -- ---- the text of an answer

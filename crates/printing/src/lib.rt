@@ -4,7 +4,7 @@ ghost use mathlib.Core.Path.{_≡_};
 ghost use Prim.Native.Nat.{_≤_};
 ghost use lib.ListN.{length};
 ghost use Rattle.rules.specs.Printed.{minedText};
-ghost use Rattle.listing.specs.Writing.{Wrote};
+ghost use Rattle.writing.specs.Writing.{Wrote};
 ghost use Rattle.printing.specs.Mined.{Listable, answerText};
 
 // The listing of the tree that mining wrote, or the line of a refusal.
@@ -14,7 +14,7 @@ fn answer_text(r: Answer, tree: &[u8], text: &mut [u8]) -> usize
 {
     match r {
         Answer::Gives(nodes) => listing::write_listing(tree, nodes, text),
-        Answer::Refused { number, place } => listing::write_refusal(number, place, text),
+        Answer::Refused { number, place } => replies::write_refusal(number, place, text),
     }
 }
 

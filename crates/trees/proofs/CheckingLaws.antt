@@ -18,9 +18,10 @@ use Rattle.rules.proofs.BoolLaws.{bool-cases}
 use Rattle.codes.specs.Bits.{has}
 use Rattle.codes.specs.declared.CodeSet.{CodeSet}
 use Rattle.codes.proofs.BitLaws.{has-zero}
-use Rattle.trees.specs.declared.Checked.{Checked}
-use Rattle.trees.specs.declared.Checked.the-variants.{Upto, Broken}
-use Rattle.trees.specs.Checks.{Agrees, NodeSays, wholeBlock}
+use Rattle.entries.specs.declared.Checked.{Checked}
+use Rattle.entries.specs.declared.Checked.the-variants.{Upto, Broken}
+use Rattle.entries.specs.Entries.{Agrees}
+use Rattle.trees.specs.Checks.{NodeSays, wholeBlock}
 
 agrees-broken : (x : Sound) → Agrees Broken x → x ≡ broken
 agrees-broken (upto end l) h = absurd h

@@ -1,5 +1,4 @@
-pub mod Rules
+pub mod RuleLaws
 pub mod CheckingLaws
-pub mod WritingLaws
 pub mod SealLaws
 pub mod Accepted

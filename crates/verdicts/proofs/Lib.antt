@@ -1,3 +1,1 @@
-pub mod GivenLaws
-pub mod LineLaws
 pub mod TextLaws

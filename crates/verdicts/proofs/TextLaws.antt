@@ -20,10 +20,11 @@ use Rattle.rules.specs.declared.Answer.the-variants.{Gives, Refused}
 use Rattle.rules.proofs.AnswerLaws.{demand-given, then-given, then-refused, then-gives}
 use Rattle.rules.proofs.Overlay.{take-overlaid, drop-overlaid}
 use Rattle.trees.proofs.Accepted.{accepted-tree}
-use Rattle.listing.specs.Writing.{Wrote}
-use Rattle.listing.proofs.Laws.{wrote-nothing, wrote-most}
-use Rattle.verdicts.specs.Lines.{Given, refusalText, LogLines, JudgedInto}
-use Rattle.verdicts.proofs.GivenLaws.{is-given}
+use Rattle.writing.specs.Writing.{Wrote}
+use Rattle.writing.proofs.WroteLaws.{wrote-nothing, wrote-most}
+use Rattle.lines.specs.Lines.{Given, LogLines}
+use Rattle.lines.proofs.GivenLaws.{is-given}
+use Rattle.verdicts.specs.Texts.{refusalText, JudgedInto}
 
 -- ---- a refusal's line
 

@@ -3,7 +3,7 @@ use Prim.Native.Nat.{_≤_, _*_, _-_}
 use native.Mathlib.Omega.{arith}
 use borrow.Author.Needs.{needs}
 use Rattle.rules.specs.Listing.{entryLines}
-use Rattle.listing.specs.Writing.{Wrote}
+use Rattle.writing.specs.Writing.{Wrote}
 use Rattle.listing.proofs.Lines.{no-lines, line-more}
 use Rattle.listing.proofs.entry_lines.Statement.{statement}
 use Rattle.listing.proofs.entry_lines.Tie as tie

@@ -3,17 +3,11 @@ use borrow.Author.Needs.{needs}
 use Rattle.listing.proofs.entry_numbers.Statement.{statement}
 use Rattle.listing.proofs.entry_numbers.Tie as tie
 
-wide-requires : tie.Need-wide-requires
-wide-requires c κs = search needs
-
 number-requires : tie.Need-number-requires
 number-requires c κs = search needs
 
 byte-requires : tie.Need-byte-requires
 byte-requires c κs = search needs
-
-wide-requires-2 : tie.Need-wide-requires-2
-wide-requires-2 c κs = search needs
 
 number-requires-2 : tie.Need-number-requires-2
 number-requires-2 c κs = search needs
@@ -31,10 +25,8 @@ pub entry-numbers-spec : {M : Type 1} → statement M
 entry-numbers-spec =
     tie.close
     (tie.spec
-    wide-requires
     number-requires
     byte-requires
-    wide-requires-2
     number-requires-2
     byte-requires-2
     same-length

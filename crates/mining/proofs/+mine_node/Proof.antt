@@ -20,7 +20,7 @@ use Rattle.mining.proofs.+mine_node.Lts-mine_node as mine-node-lts
 use Rattle.bases.proofs.base.Reads as base-reads
 use Rattle.bases.proofs.byte.Reads as byte-reads
 use Rattle.planning.proofs.planned.Reads as planned-reads
-use Rattle.trees.proofs.put.Reads as put-reads
+use Rattle.entries.proofs.put.Reads as put-reads
 use Rattle.views.proofs.part_of.Reads as part-of-reads
 use Rattle.mining.proofs.+mine_node.{statement}
 use Rattle.mining.proofs.+mine_node.Tie.{close}

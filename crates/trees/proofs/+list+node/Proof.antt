@@ -2,9 +2,9 @@ use mathlib.Core.Path.{sym, subst}
 use Prim.Native.Nat.{ℕ, _+_, _-_, _*_, _≤_, _<_}
 use native.Mathlib.Omega.{arith}
 use borrow.Author.Needs.{needs}
-use Rattle.trees.proofs.Rules.{node-settled, node-operator, list-none, list-broken, list-more, past-operator, after-upto}
+use Rattle.trees.proofs.RuleLaws.{node-settled, node-operator, list-none, list-broken, list-more, past-operator, after-upto}
 use Rattle.trees.specs.Checks.{NodeSays, ListSays}
-use Rattle.trees.specs.declared.Checked.{Checked}
+use Rattle.entries.specs.declared.Checked.{Checked}
 use borrow.Fn.Kinds.{In}
 use borrow.Fn.PlainCycle.{Measures, is, falls, and}
 use Rattle.trees.proofs.list.Reads as list
@@ -13,7 +13,7 @@ use Rattle.trees.proofs.+list+node.Lts-list as list-lts
 use Rattle.trees.proofs.node.Reads as node
 use Rattle.trees.proofs.node.Kinds as node-kinds
 use Rattle.trees.proofs.+list+node.Lts-node as node-lts
-use Rattle.trees.proofs.entry_at.Reads as entry-at-reads
+use Rattle.entries.proofs.entry_at.Reads as entry-at-reads
 use Rattle.trees.proofs.sized.Reads as sized-reads
 use Rattle.trees.proofs.+list+node.{statement}
 use Rattle.trees.proofs.+list+node.Tie.{close}

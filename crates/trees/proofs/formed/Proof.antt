@@ -1,5 +1,5 @@
 use native.Mathlib.Omega.{arith}
-use Rattle.trees.proofs.Rules.{after-upto}
+use Rattle.trees.proofs.RuleLaws.{after-upto}
 use Rattle.trees.proofs.CheckingLaws.{formed-broken, formed-after, formed-here}
 use borrow.Author.Needs.{needs}
 use Rattle.trees.proofs.formed.Statement.{statement}
@@ -41,12 +41,12 @@ sub-if1 c = omega (arith, after-upto _ (c .before .before .before .root .given .
 returns-2 : tie.Need-returns-2
 returns-2 c =
     let n = c .before .before .before .before .before .before in
-    formed-after _ _ (n .before .none .ensures) _ (n .node .ensures) _ _ (c .before .before .before .before .root .given .1) _ (c .before .first-set .ensures) (c .if1 .taken)
+    formed-after _ _ (n .before .none .ensures) _ (n .node .ensures) _ _ (c .before .before .before .before .root .given .1) _ (c .before .first-set .ensures) (omega arith)
 
 returns-3 : tie.Need-returns-3
 returns-3 c =
     let n = c .before .before .before .before .before .before in
-    formed-here _ _ (n .before .none .ensures) _ (n .node .ensures) _ _ (c .before .before .before .before .root .given .1) _ (c .before .first-set .ensures) (c .if1 .left)
+    formed-here _ _ (n .before .none .ensures) _ (n .node .ensures) _ _ (c .before .before .before .before .root .given .1) _ (c .before .first-set .ensures) (omega arith)
 
 pub formed-spec : {M : Type 1} → statement M
 formed-spec =
