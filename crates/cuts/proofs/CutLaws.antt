@@ -1,129 +1,30 @@
--- The cuts of a graph whose codes, starts and ends are sets, over any number of codes m.
+-- When there is a cut, and how many parts and codes it takes. Over any number of codes m.
 use mathlib.Core.Path.{_≡_, refl, sym, _∙_, ap, ap₂, fun-ext}
 use mathlib.Core.Logic.{_⊎_, inl, inr, ⊎-elim}
 use mathlib.Core.List.{List, [], _∷_}
-use mathlib.Core.Bool.{Bool, true, false, cond, not, _&&_, _||_}
-use Prim.Native.Nat.{ℕ, zero, suc, _+_, _^_, _≤_, _<_}
+use mathlib.Core.Bool.{Bool, true, false, cond, not, _&&_}
+use Prim.Native.Nat.{ℕ, zero, suc, _+_, _≤_, _<_}
 use native.Mathlib.Omega.{arith}
-use lib.ListN.{length, take}
-use borrow.Author.Tests.{eq-eqb, ne-eqb}
-use lib.Seq.{length-take-le}
-use Rattle.rules.specs.Words.{any, all, push, keep, each, mem, from}
+use lib.ListN.{length}
+use borrow.Author.Tests.{eq-eqb, ne-eqb, lt-ltb}
+use Rattle.rules.specs.Words.{any, all, push, keep, from}
 use Rattle.rules.specs.Trees.{Op, choice, sequence, parallel}
 use Rattle.rules.specs.Mining as mining
-use Rattle.rules.specs.Mining.{Rel, Shape, nothing, cut, orElse, through, reach, components, join, either, together, headOf, place, placeBy, ordered, notBoth, onlyIf, onBorder, isRedo, choiceParts, sequenceParts, parallelParts, redoParts, bodyPart, loopParts}
+use Rattle.rules.specs.Mining.{Rel, Shape, nothing, cut, orElse, reach, components, join, either, together, headOf, place, placeBy, ordered, notBoth, onlyIf, onBorder, isRedo, choiceParts, sequenceParts, parallelParts, redoParts, loopParts}
 use Rattle.rules.proofs.BoolLaws.{bool-cases, clash}
-use Rattle.rules.proofs.ListLaws.{Has, has-any, false-any, keep-both, keep-ext, keep-all, length-from, from-has, has-from}
-use Rattle.rules.proofs.FilterLaws.{any-ext, all-ext, keep-each, all-each, any-each}
+use Rattle.rules.proofs.ListLaws.{Has, has-any, false-any, keep-all, length-from}
 use Rattle.codes.specs.Bits.{has, count, listed}
-use Rattle.codes.proofs.ListedLaws.{has-listed, listed-has, mem-listed}
-use Rattle.graphs.specs.Edges.{edgeOf}
-use Rattle.tables.specs.declared.Parts.{Parts}
-use Rattle.tables.specs.declared.Bond.{Bond}
-use Rattle.tables.specs.declared.Bond.the-variants.{Alike}
-use Rattle.tables.specs.Joined.{setsOf, partsOf, bonded, meets}
-use Rattle.tables.proofs.JoinLaws.{meets-listed}
-use Rattle.tables.proofs.TableLaws.{Table, edge-below}
-use Rattle.tables.proofs.ReachLaws.{through-within}
+use Rattle.graphs.specs.declared.Graph.{Graph}
+use Rattle.graphs.specs.Edges.{meant}
+use Rattle.tables.proofs.TableLaws.{Table}
+use Rattle.sequences.specs.Order.{inSequence}
+use Rattle.sequences.proofs.SequenceLaws.{sequence-is}
+use Rattle.parts.specs.declared.Parts.{Parts}
+use Rattle.parts.specs.Sets.{listsOf}
+use Rattle.parts.proofs.SetLaws.{number}
+use Rattle.loops.specs.Roomed.{roomed}
 use Rattle.cuts.specs.declared.Cut.{Cut}
-use Rattle.cuts.specs.Cuts.{Back, mayRedo, cutElse}
-use Rattle.cuts.proofs.RedoLaws.{redo-codes}
-
--- the graph on the codes of a set
-abbrev pub drawn : ℕ → ℕ → Rel → ℕ → ℕ → mining.Graph
-drawn m kept edge starts ends = record { codes = listed m kept; edge = edge; start = has starts; end = has ends }
-
--- what the rows and the columns say together, the rows say both ways
-pub back-is : (bond : Bond) (rows cols : List ℕ) → Back rows cols →
-    _≡_ {A = Rel} (λ a b. bonded bond (edgeOf rows a b) (edgeOf cols a b)) (λ a b. bonded bond (edgeOf rows a b) (edgeOf rows b a))
-back-is bond rows cols h = fun-ext (λ (a : ℕ). fun-ext (λ (b : ℕ). ap (bonded bond (edgeOf rows a b)) (h a b)))
-
--- ---- parallel
-
-module _ (m kept : ℕ) (edge : Rel) (starts ends : ℕ) (ls : starts < 2 ^ m) (le : ends < 2 ^ m) (sets : List ℕ)
-    (parts : each (listed m) sets ≡ components (notBoth edge) (listed m kept)) where
-  -- each part has a start and an end
-  served : all (λ p. any (has starts) p && any (has ends) p) (components (notBoth edge) (listed m kept)) ≡ all (λ p. meets starts p && meets ends p) sets
-  served =
-      ap (all (λ p. any (has starts) p && any (has ends) p)) (sym parts) ∙ all-each (λ p. any (has starts) p && any (has ends) p) (listed m) sets
-      ∙ all-ext (λ p. any (has starts) (listed m p) && any (has ends) (listed m p)) (λ p. meets starts p && meets ends p) sets
-      (λ p i. sym (ap₂ _&&_ (meets-listed m starts p ls) (meets-listed m ends p le)))
-
-  pub parallel-on : all (λ p. meets starts p && meets ends p) sets ≡ true → each (listed m) sets ≡ parallelParts (drawn m kept edge starts ends)
-  unfolding parallelParts
-  parallel-on h = parts ∙ ap (λ (b : Bool). onlyIf b (components (notBoth edge) (listed m kept))) (sym (served ∙ h))
-
-  pub parallel-off : all (λ p. meets starts p && meets ends p) sets ≡ false → [] ≡ parallelParts (drawn m kept edge starts ends)
-  unfolding parallelParts
-  parallel-off h = ap (λ (b : Bool). onlyIf b (components (notBoth edge) (listed m kept))) (sym (served ∙ h))
-
--- ---- loop
-
-not-any : (t : ℕ → Bool) (xs : List ℕ) → all t xs ≡ not (any (λ x. not (t x)) xs)
-not-any t [] = refl
-not-any t (x ∷ xs) = one (t x) (not-any t xs)
-  where
-    one : (b : Bool) → all t xs ≡ not (any (λ y. not (t y)) xs) → (b && all t xs) ≡ not (not b || any (λ y. not (t y)) xs)
-    one true e = e
-    one false e = refl
-
-and-other : (a b : Bool) → (a && not b) ≡ (a && not (a && b))
-and-other true b = refl
-and-other false b = refl
-
--- a filter of the codes of a set is the codes of a set
-pub keep-listed : (m x y : ℕ) (p : ℕ → Bool) → ((c : ℕ) → c < m → has y c ≡ (has x c && p c)) → keep p (listed m x) ≡ listed m y
-unfolding listed
-keep-listed m x y p h = keep-both p (has x) (from 0 m) ∙ keep-ext (λ c. has x c && p c) (has y) (from 0 m) (λ c i. let l = from-has m 0 c i in sym (h c (omega arith)))
-
-module _ (m kept : ℕ) (edge : Rel) (starts ends border rest : ℕ)
-    (on-border : (c : ℕ) → has border c ≡ (has kept c && (has starts c || has ends c)))
-    (on-rest : (c : ℕ) → has rest c ≡ (has kept c && not (has border c))) where
-  abbrev g : mining.Graph
-  g = drawn m kept edge starts ends
-
-  border-is : keep (onBorder g) (listed m kept) ≡ listed m border
-  border-is = keep-listed m kept border (onBorder g) (λ c l. on-border c)
-
-  pub rest-is : keep (λ a. not (onBorder (drawn m kept edge starts ends) a)) (listed m kept) ≡ listed m rest
-  rest-is =
-      keep-listed m kept rest (λ a. not (onBorder g a))
-      (λ c l. on-rest c ∙ ap (λ (b : Bool). has kept c && not b) (on-border c) ∙ sym (and-other (has kept c) (onBorder g c)))
-
-  module _ (unfit : ℕ) (lu : unfit < 2 ^ m) (on-unfit : (c : ℕ) → c < m → has unfit c ≡ not (mayRedo (edge c) (λ a. edge a c) (drawn m border edge starts ends)))
-      (sets : List ℕ) (parts : each (listed m) sets ≡ components (either edge) (listed m rest)) where
-    redo-is : (p : ℕ) → isRedo g (listed m border) (listed m p) ≡ not (meets unfit p)
-    unfolding mayRedo
-    redo-is p =
-        let may : ℕ → Bool = λ x. mayRedo (edge x) (λ a. edge a x) (drawn m border edge starts ends) in
-        redo-codes g (listed m border) (listed m p) ∙ not-any may (listed m p)
-        ∙ ap not (any-ext (λ x. not (may x)) (has unfit) (listed m p) (λ x i. sym (on-unfit x (has-listed m p x i .0))) ∙ sym (meets-listed m unfit p lu))
-
-    -- THEOREM: the parts without an unfit code are the redo parts
-    pub redos-are : each (listed m) (keep (λ p. not (meets unfit p)) sets) ≡ redoParts (drawn m kept edge starts ends)
-    unfolding redoParts
-    redos-are =
-        ap (each (listed m)) (sym (keep-ext (λ p. isRedo g (listed m border) (listed m p)) (λ p. not (meets unfit p)) sets (λ p i. redo-is p)))
-        ∙ sym (keep-each (isRedo g (listed m border)) (listed m) sets)
-        ∙ ap (keep (isRedo g (listed m border))) (parts ∙ ap (components (either edge)) (sym rest-is))
-        ∙ ap (λ (bs : List ℕ). keep (isRedo g bs) (components (either edge) (keep (λ a. not (onBorder g a)) (listed m kept)))) (sym border-is)
-
-    -- THEOREM: the codes that no redo part has are the body
-    pub body-is : (body : ℕ) → ((c : ℕ) → has body c ≡ (has kept c && not (any (λ p. has p c) (keep (λ p. not (meets unfit p)) sets)))) →
-        listed m body ≡ bodyPart (drawn m kept edge starts ends)
-    unfolding bodyPart
-    body-is body h =
-        let redos : List ℕ = keep (λ p. not (meets unfit p)) sets in
-        sym (ap (λ (rs : List (List ℕ)). keep (λ a. not (any (mem a) rs)) (listed m kept)) (sym redos-are)
-        ∙ keep-listed m kept body (λ a. not (any (mem a) (each (listed m) redos)))
-        (λ c l. h c ∙ ap (λ (b : Bool). has kept c && not b)
-        (sym (any-each (mem c) (listed m) redos ∙ any-ext (λ p. mem c (listed m p)) (λ p. has p c) redos (λ p i. mem-listed m p c l)))))
-
-    -- the body and the redo parts
-    pub loop-is : (body : ℕ) (out : List ℕ) → ((c : ℕ) → has body c ≡ (has kept c && not (any (λ p. has p c) (keep (λ p. not (meets unfit p)) sets)))) →
-        out ≡ body ∷ keep (λ p. not (meets unfit p)) sets → each (listed m) out ≡ loopParts (drawn m kept edge starts ends)
-    unfolding loopParts
-    loop-is body out h o = ap (each (listed m)) o ∙ ap₂ _∷_ (body-is body h) redos-are
+use Rattle.cuts.specs.Cuts.{Inside, cutElse}
 
 -- ---- how many
 
@@ -150,10 +51,10 @@ pub length-listed : (m x : ℕ) → length (listed m x) ≤ m
 unfolding listed
 length-listed m x = omega (arith, length-keep (has x) (from 0 m), length-from m 0)
 
--- the components without starts and ends leave room for the body: the border has a code, or there is no choice
-pub room : (m : ℕ) (g : mining.Graph) → length (g .codes) ≤ m → 2 ≤ m → length (choiceParts g) < 2 → length (components (either (g .edge)) (keep (λ a. not (onBorder g a)) (g .codes))) < m
+-- the components without starts and ends are fewer than the codes: the border has a code, or there is no choice
+fewer : (m : ℕ) (g : mining.Graph) → length (g .codes) ≤ m → 2 ≤ m → length (choiceParts g) < 2 → length (components (either (g .edge)) (keep (λ a. not (onBorder g a)) (g .codes))) < m
 unfolding choiceParts
-room m g l two h =
+fewer m g l two h =
     ⊎-elim
     (λ (y : any (onBorder g) (g .codes) ≡ true). let k = has-any (onBorder g) (g .codes) y in
     omega (arith, length-components (either (g .edge)) (keep (λ a. not (onBorder g a)) (g .codes)), length-dropped (λ a. not (onBorder g a)) (k .0) (g .codes) (k .1) (ap not (k .2))))
@@ -161,6 +62,18 @@ room m g l two h =
     let e : keep (λ a. not (onBorder g a)) (g .codes) ≡ g .codes = keep-all (λ a. not (onBorder g a)) (g .codes) (λ a i. ap not (false-any (onBorder g) a (g .codes) y i)) in
     rw e (omega arith))
     (bool-cases (any (onBorder g) (g .codes)))
+
+-- THEOREM: where there is no choice, the redo parts leave room for the body
+pub room : (g : mining.Graph) → length (g .codes) ≤ 32 → length (choiceParts g) < 2 → roomed g ≡ loopParts g
+unfolding roomed redoParts
+room g l h =
+    let parts : List (List ℕ) = components (either (g .edge)) (keep (λ a. not (onBorder g a)) (g .codes)) in
+    ap (λ (b : Bool). onlyIf b (loopParts g)) (lt-ltb (length (redoParts g)) 32 (omega (arith, fewer 32 g l (omega arith) h, length-keep (isRedo g (keep (onBorder g) (g .codes))) parts)))
+
+-- the groups in the order of reach are the parts of the sequence, where every edge is between codes of the set
+pub ordered-parts : (g : Graph) (kept : ℕ) → Table 32 (g .rows) → Inside g kept → inSequence (g .rows) kept ≡ sequenceParts (meant g kept)
+unfolding meant
+ordered-parts g kept t inside = sequence-is (g .rows) kept t inside (g .starts .bits) (g .ends .bits)
 
 -- ---- a cut needs two parts or more
 
@@ -183,46 +96,13 @@ uncut o s [] h = omega arith
 uncut o s (p ∷ []) h = omega arith
 uncut o s (p ∷ q ∷ ps) h = clash (cc)
 
-length-each : {A B : Type 0} (f : A → B) (xs : List A) → length (each f xs) ≡ length xs
-length-each f [] = refl
-length-each f (x ∷ xs) = ap suc (length-each f xs)
-
--- the number of parts
-counted : (p : Parts) → length (p .sets) ≡ 32 → p .n ≤ 32 → length (partsOf p) ≡ p .n
-unfolding partsOf setsOf
-counted p e l = length-each (listed 32) (take (p .n) (p .sets)) ∙ length-take-le (p .n) (p .sets) (omega arith)
-
 -- the parts of a cut, found and counted
-module _ (o : Op) (s : Shape) (p : Parts) (ps : List (List ℕ)) (size : length (p .sets) ≡ 32) (few : p .n ≤ 32) (e : partsOf p ≡ ps) where
-  pub number : length ps ≡ p .n
-  number = ap length (sym e) ∙ counted p size few
-
-  pub cut-found : 2 ≤ p .n → cut o (partsOf p) ≡ orElse o ps s
-  cut-found h = ap (cut o) e ∙ cut-here o s ps (omega (arith, number))
+module _ (o : Op) (s : Shape) (p : Parts) (ps : List (List ℕ)) (size : length (p .sets) ≡ 32) (few : p .n ≤ 32) (e : listsOf p ≡ ps) where
+  pub cut-found : 2 ≤ p .n → cut o (listsOf p) ≡ orElse o ps s
+  cut-found h = ap (cut o) e ∙ cut-here o s ps (omega (arith, number p ps size few e))
 
   pub cut-missed : p .n < 2 → s ≡ orElse o ps s
-  cut-missed h = cut-later o s ps (omega (arith, number))
-
--- ---- sequence
-
-module _ (m kept : ℕ) (rows to back : List ℕ) (t : Table m rows)
-    (inside : (a b : ℕ) → edgeOf rows a b ≡ true → (has kept a ≡ true) × (has kept b ≡ true))
-    (closed : (a b : ℕ) → edgeOf to a b ≡ through (from 0 m) (from 0 m) (edgeOf rows) a b) (turned : Back to back) where
-  -- the table that is closed is reach
-  reach-is : (starts ends : ℕ) → edgeOf to ≡ reach (drawn m kept (edgeOf rows) starts ends)
-  unfolding reach
-  reach-is starts ends =
-      fun-ext (λ (a : ℕ). fun-ext (λ (b : ℕ). closed a b ∙ through-within (edgeOf rows) (from 0 m) (listed m kept)
-      (λ x y h. let l = edge-below m rows t x y h in (has-from m 0 x (omega arith) (omega arith), has-from m 0 y (omega arith) (omega arith)))
-      (λ x y h. let l = edge-below m rows t x y h in let k = inside x y h in (listed-has m kept x (l .0) (k .0), listed-has m kept y (l .1) (k .1))) a b))
-
-  -- THEOREM: the groups that belong together, put in order, are the parts of the sequence
-  pub sequence-is : (starts ends : ℕ) (ps out : List (List ℕ)) → ps ≡ components (λ a b. bonded Alike (edgeOf to a b) (edgeOf back a b)) (listed m kept) →
-      out ≡ ordered (edgeOf to) ps → out ≡ sequenceParts (drawn m kept (edgeOf rows) starts ends)
-  unfolding sequenceParts
-  sequence-is starts ends ps out e o =
-      o ∙ ap (ordered (edgeOf to)) (e ∙ ap (λ (r : Rel). components r (listed m kept)) (back-is Alike to back turned))
-      ∙ ap (λ (r : Rel). ordered r (components (together r) (listed m kept))) (reach-is starts ends)
+  cut-missed h = cut-later o s ps (omega (arith, number p ps size few e))
 
 -- ---- one code alone has no choice, sequence or parallel cut
 

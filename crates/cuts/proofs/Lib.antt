@@ -1,4 +1,1 @@
-pub mod OrderLaws
-pub mod LoopLaws
-pub mod RedoLaws
 pub mod CutLaws

@@ -15,10 +15,11 @@ use Rattle.rules.specs.declared.Verdict.{Verdict}
 use Rattle.rules.specs.declared.Verdict.the-variants.{Fits, Misfit}
 use Rattle.rules.proofs.FormedLaws.{FormedTree, formed-tree, formed-one}
 use Rattle.places.specs.Rows.{Says}
-use Rattle.judging.specs.Entries.{Subtree}
-use Rattle.judging.specs.Nodes.{Nodes}
-use Rattle.judging.specs.Verdicts.{FitSays, dismissed}
-use Rattle.judging.proofs.EntryLaws.{holds-size, size-some, every-entry}
+use Rattle.subtrees.specs.Entries.{Subtree}
+use Rattle.fitting.specs.Fits.{Nodes}
+use Rattle.fitting.specs.Fits.{FitSays}
+use Rattle.judging.specs.Verdicts.{dismissed}
+use Rattle.subtrees.proofs.EntryLaws.{holds-size, size-some, every-entry}
 use Rattle.judging.proofs.AcceptLaws.{Accepted, judging-given}
 
 module _ (b e work : List ℕ) (a : Answer) (call : a ≡ judging b e work) where

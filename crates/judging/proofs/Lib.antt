@@ -1,9 +1,3 @@
-pub mod LabelLaws
-pub mod EntryLaws
-pub mod ChildrenLaws
-pub mod NodeLaws
-pub mod VerdictLaws
-pub mod MemoryLaws
 pub mod AcceptLaws
 pub mod JudgeLaws
 pub mod OneAnswer

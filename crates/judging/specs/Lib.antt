@@ -1,4 +1,1 @@
-pub mod Entries
-pub mod Children
-pub mod Nodes
 pub mod Verdicts

@@ -21,8 +21,7 @@ use Rattle.rules.proofs.FilterLaws.{any-ext}
 use Rattle.codes.specs.Bits.{has, listed}
 use Rattle.codes.proofs.BitLaws.{has-zero, has-with, has-every, lt-or-le}
 use Rattle.codes.proofs.LowestLaws.{lowest-is}
-use Rattle.tables.proofs.JoinLaws.{meets-listed}
-use Rattle.tables.proofs.SweepLaws.{meets-on, meets-off}
+use Rattle.parts.proofs.SetLaws.{meets-on, meets-off, meets-listed}
 use Rattle.views.specs.Sublogs.{Set, Sight, piecesOf, lacks, bareOf, partSight}
 use Rattle.views.proofs.PassLaws.{any-append, pieces-append, bare-empty, bare-full}
 use Rattle.lacking.specs.Missed.{partAt, missedBy, lackedBy}

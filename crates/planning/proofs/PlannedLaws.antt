@@ -23,7 +23,7 @@ use Rattle.codes.proofs.BitLaws.{has-zero}
 use Rattle.codes.proofs.LowestLaws.{lowest-is}
 use Rattle.graphs.specs.declared.Graph.{Graph}
 use Rattle.graphs.specs.Edges.{edgeOf, meant}
-use Rattle.tables.specs.Joined.{setsOf, partsOf}
+use Rattle.parts.specs.Sets.{setsOf, listsOf}
 use Rattle.cuts.specs.declared.Cut.{Cut}
 use Rattle.cuts.specs.Cuts.{Inside, cutElse, cutShape, CutOf}
 use Rattle.views.specs.declared.View.{View}
@@ -128,16 +128,16 @@ module _ (l : Log) (v : View) where
         (kept a (q .0), kept b (q .1))
 
     module _ (off : t ≡ false) (r : Cut) (c : CutOf g (v .keep .bits) r) (long : length (r .parts .sets) ≡ 32) where
-      found : Tight 32 (sight v) l → ((r .kind ≡ 0) × (shape 32 (sublog v l) ≡ flower codesOf)) ⊎ ((o : Op) × (kindOf o ≡ r .kind) × (shape 32 (sublog v l) ≡ cut o (partsOf (r .parts))))
+      found : Tight 32 (sight v) l → ((r .kind ≡ 0) × (shape 32 (sublog v l) ≡ flower codesOf)) ⊎ ((o : Op) × (kindOf o ≡ r .kind) × (shape 32 (sublog v l) ≡ cut o (listsOf (r .parts))))
       unfolding cutShape cutElse isNothing
       found k =
           let e : shape 32 (sublog v l) ≡ cutOr (meant g (v .keep .bits)) (flower codesOf) =
           rest k ∙ ap (λ (b : Bool). pick b (single (headOf codesOf)) (cutOr (meant g (v .keep .bits)) (flower codesOf))) off in
-          cut-kinds (r .kind) codesOf (partsOf (r .parts)) (eqb (r .kind) 0) (eqb (r .kind) 3) (eqb (r .kind) 4) (eqb (r .kind) 5) (eqb (r .kind) 6) refl refl refl refl refl
+          cut-kinds (r .kind) codesOf (listsOf (r .parts)) (eqb (r .kind) 0) (eqb (r .kind) 3) (eqb (r .kind) 4) (eqb (r .kind) 5) (eqb (r .kind) 6) refl refl refl refl refl
           (shape 32 (sublog v l)) (c .shape (inside k) ∙ sym e) (ap isNothing e ∙ cut-something (meant g (v .keep .bits)) (flower codesOf) refl)
 
       pub planned-cut : (p : Plan) → CutPlan l v (r .kind) (r .parts) p → Planned l v p
-      unfolding partsOf setsOf
+      unfolding listsOf setsOf
       planned-cut p q =
           let kind = q .is in
           let count = q .count in

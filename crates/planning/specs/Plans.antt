@@ -10,7 +10,7 @@ use Rattle.rules.specs.Trees.{Op, Tree, silent, leaf}
 use Rattle.rules.specs.Mining.{Log, Rel, Shape, nothing, single, flower, cut, shape, headOf, flowerOf}
 use Rattle.rules.specs.TreeBlock.{kindOf}
 use Rattle.codes.specs.Bits.{has, listed}
-use Rattle.tables.specs.declared.Parts.{Parts}
+use Rattle.parts.specs.declared.Parts.{Parts}
 use Rattle.views.specs.declared.View.{View}
 use Rattle.views.specs.Sublogs.{sight, sublog, Tight, partSight}
 use Rattle.planning.specs.declared.Plan.{Plan}

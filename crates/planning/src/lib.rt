@@ -1,7 +1,7 @@
 // What is made of a view's sublog: silent, a leaf, a flower, or a cut with its parts.
 use codes::CodeSet;
 use graphs::Graph;
-use tables::Parts;
+use parts::Parts;
 use views::View;
 ghost use mathlib.Core.Path.{_≡_};
 ghost use Prim.Native.Nat.{_≤_, _<_};

@@ -1,4 +1,2 @@
 pub mod TableLaws
 pub mod ReachLaws
-pub mod JoinLaws
-pub mod SweepLaws

@@ -32,7 +32,7 @@ returns c =
       few = cu .ensures .few;
       two = cu .ensures .two;
       shape = λ i. cut-some (cu .result) (c .if2 .taken) (flower (listed 32 kept)) (orElse loop (loopParts g) (flower (listed 32 kept)))
-          ∙ cu .ensures .shape (c .before .before .before .before .before .transpose .ensures) i (orElse loop (loopParts g) (flower (listed 32 kept)));
+          ∙ cu .ensures .shape i (orElse loop (loopParts g) (flower (listed 32 kept)));
     }
 
 -- where the loop is looked for, there is none of the first three
@@ -41,7 +41,7 @@ later : (c : tie.Joined1) → Inside (c .before .before .before .before .args .g
 unfolding meant
 later c i =
     let a = c .before .before .before .before .args in
-    ⊎-elim (λ w s. sym (cut-none (w .1 .result) (w .3 .left) s) ∙ w .1 .ensures .shape (c .before .before .transpose .ensures) i s)
+    ⊎-elim (λ w s. sym (cut-none (w .1 .result) (w .3 .left) s) ∙ w .1 .ensures .shape i s)
     (λ w. later-alone (meant (a .g) (a .keep .bits)) (omega (arith, w .left, c .before .count .ensures, count-listed 32 (a .keep .bits))))
     (c .if1 .came)
 
@@ -59,7 +59,7 @@ returns-2 c =
     record {
       few = lo .ensures .0;
       two = λ n. c .if3 .taken;
-      shape = λ i. cut-found loop (flower (listed 32 kept)) (lo .result) (loopParts g) size (lo .ensures .0) (lo .ensures .1 (c .before .before .before .before .before .transpose .ensures) (room 32 g (length-listed 32 kept) (omega arith) (later-choice g (later (c .before .before .before) i)))) (c .if3 .taken)
+      shape = λ i. cut-found loop (flower (listed 32 kept)) (lo .result) (loopParts g) size (lo .ensures .0) (lo .ensures .1 ∙ room g (length-listed 32 kept) (later-choice g (later (c .before .before .before) i))) (c .if3 .taken)
           ∙ later (c .before .before .before) i (orElse loop (loopParts g) (flower (listed 32 kept)));
     }
 
@@ -74,7 +74,7 @@ returns-3 c =
     record {
       few = lo .ensures .0;
       two = λ n. absurd (n refl);
-      shape = λ i. cut-missed loop (flower (listed 32 kept)) (lo .result) (loopParts g) size (lo .ensures .0) (lo .ensures .1 (c .before .before .before .before .before .transpose .ensures) (room 32 g (length-listed 32 kept) (omega arith) (later-choice g (later (c .before .before .before) i)))) (c .if3 .left)
+      shape = λ i. cut-missed loop (flower (listed 32 kept)) (lo .result) (loopParts g) size (lo .ensures .0) (lo .ensures .1 ∙ room g (length-listed 32 kept) (later-choice g (later (c .before .before .before) i))) (c .if3 .left)
           ∙ later (c .before .before .before) i (orElse loop (loopParts g) (flower (listed 32 kept)));
     }
 

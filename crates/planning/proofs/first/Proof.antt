@@ -1,6 +1,6 @@
 use mathlib.Core.Path.{_∙_}
 use native.Mathlib.Omega.{arith}
-use Rattle.cuts.proofs.OrderLaws.{head-least, head-none}
+use Rattle.parts.proofs.HeadLaws.{head-least, head-none}
 use borrow.Author.Needs.{needs}
 use Rattle.planning.proofs.first.Statement.{statement}
 use Rattle.planning.proofs.first.Tie as tie

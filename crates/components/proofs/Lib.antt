@@ -1,0 +1,3 @@
+pub mod BondLaws
+pub mod JoinLaws
+pub mod SweepLaws

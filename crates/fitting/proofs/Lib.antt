@@ -1,0 +1,3 @@
+pub mod FillLaws
+pub mod MemoryLaws
+pub mod VerdictLaws

@@ -1,0 +1,2 @@
+pub mod PartLaws
+pub mod LoopLaws

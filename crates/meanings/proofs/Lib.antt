@@ -1,0 +1,5 @@
+pub mod SliceLaws
+pub mod KeepLaws
+pub mod MeansLaws
+pub mod LoopMeans
+pub mod LanguageLaws

@@ -1,0 +1,2 @@
+pub mod Children
+pub mod Nodes

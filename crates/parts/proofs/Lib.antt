@@ -1,0 +1,3 @@
+pub mod SetLaws
+pub mod HeadLaws
+pub mod InsertLaws

@@ -1,0 +1,22 @@
+-- What the parts say, as sets and as the rules have them.
+use mathlib.Core.List.{List}
+use mathlib.Core.Bool.{Bool, not}
+use Prim.Native.Nat.{ℕ}
+use lib.Dec.{eqb}
+use lib.Bits.{bitAnd}
+use lib.ListN.{take}
+use Rattle.rules.specs.Words.{each}
+use Rattle.codes.specs.Bits.{listed}
+use Rattle.parts.specs.declared.Parts.{Parts}
+
+-- the sets of some parts, in order
+unfoldable pub setsOf : Parts → List ℕ
+setsOf p = take (p .n) (p .sets)
+
+-- the parts as the rules have them
+unfoldable pub listsOf : Parts → List (List ℕ)
+listsOf p = each (listed 32) (setsOf p)
+
+-- the set has a code of the row
+unfoldable pub meets : ℕ → ℕ → Bool
+meets row p = not (eqb (bitAnd p row) 0)
