@@ -1,4 +1,2 @@
-pub mod TrailLaws
-pub mod TurnLaws
 pub mod QuietLaws
 pub mod PassLaws

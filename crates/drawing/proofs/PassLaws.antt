@@ -5,8 +5,8 @@ use Rattle.rules.specs.Mining as mining
 use Rattle.rules.specs.Mining.{Log}
 use Rattle.views.specs.Sublogs.{Sight, piecesOf}
 use Rattle.views.proofs.PassLaws.{pieces-append}
-use Rattle.drawing.specs.Growing.{joined, withPieces}
-use Rattle.drawing.proofs.TrailLaws.{joined-nil, joined-append}
+use Rattle.trails.specs.Growing.{joined, withPieces}
+use Rattle.trails.proofs.TrailLaws.{joined-nil, joined-append}
 
 pub graph-nil : (s : Sight) (g : mining.Graph) → withPieces s g [] ≡ g
 graph-nil s g = joined-nil g

@@ -16,9 +16,9 @@ use Rattle.graphs.specs.declared.Graph.{Graph}
 use Rattle.graphs.specs.Edges.{meant}
 use Rattle.views.specs.Sublogs.{Sight, walk}
 use Rattle.views.proofs.SetLaws.{has-below}
-use Rattle.drawing.specs.Growing.{withPieces, trailed, addsNothing, graphOf}
-use Rattle.drawing.proofs.TrailLaws.{noted-event, noted-break, turn-pass, end-again}
-use Rattle.drawing.proofs.TurnLaws.{trail-start, trail-next, trail-end}
+use Rattle.trails.specs.Growing.{withPieces, trailed, addsNothing, graphOf}
+use Rattle.trails.proofs.TrailLaws.{noted-event, noted-break, turn-pass, end-again}
+use Rattle.trails.proofs.TurnLaws.{trail-start, trail-next, trail-end}
 
 -- the known codes are events that add nothing after `last`
 abbrev pub Known : Graph → ℕ → ℕ → ℕ → Type 0

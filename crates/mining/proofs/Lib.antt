@@ -1,4 +1,3 @@
 pub mod ClearLaws
-pub mod NodeLaws
 pub mod CallLaws
 pub mod Written

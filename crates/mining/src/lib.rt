@@ -1,20 +1,15 @@
 // Mining: from a log to the block of its tree.
-use codes::CodeSet;
 use rules::Answer;
-use views::View;
 ghost use mathlib.Core.Path.{_≡_};
 ghost use mathlib.Core.List.{_++_};
 ghost use Prim.Native.Nat.{_≤_};
 ghost use lib.ListN.{length, drop};
 ghost use Rattle.rules.specs.Words.{zeros};
 ghost use Rattle.rules.specs.Trees.{size};
-ghost use Rattle.rules.specs.Mining.{mined};
 ghost use Rattle.rules.specs.LogBlock.{logEpisodes};
 ghost use Rattle.rules.specs.TreeBlock.{treeBlock};
 ghost use Rattle.rules.specs.Calls.{treeOf, MineSays};
-ghost use Rattle.views.specs.Sublogs.{sublog};
-ghost use Rattle.bases.specs.Writing.{WroteTree};
-ghost use Rattle.mining.specs.Ready.{Ready, SoundLog};
+ghost use Rattle.mining.specs.Sound.{SoundLog};
 
 // The first n bytes become zero.
 fn clear(bytes: &mut [u8], n: usize)
@@ -28,30 +23,6 @@ fn clear(bytes: &mut [u8], n: usize)
     }
 }
 
-// Writes the tree of a view's sublog from an entry on, and answers the next entry.
-fn mine_node(log: &[u8], tree: &mut [u8], v: View, at: usize) -> usize
-    requires { ⌜ Ready (logEpisodes 1 (now log)) v (now tree) at ⌝ }
-    ensures { λ r. ⌜ WroteTree (mined 32 (sublog v (logEpisodes 1 (now (log .entry))))) at (now (tree .entry)) r (now (tree .exit)) ⌝ }
-{
-    let plan = planning::planned(log, v);
-    let kind = plan.kind;
-    if kind < 3 {
-        let keep = v.keep;
-        return bases::base(tree, at, kind, keep);
-    }
-    let n = plan.n;
-    let mut next = at + 1;
-    let mut i: usize = 0;
-    while i < n {
-        let part = CodeSet { bits: plan.sets[i] };
-        let w = views::part_of(v, kind, part, (plan.missed >> i) % 2 == 1);
-        next = mine_node(log, tree, w, next);
-        i += 1;
-    }
-    entries::put(tree, at, kind, bases::byte(n), bases::byte(next - at));
-    next
-}
-
 // Writes the block of a sound log's tree, and answers the number of nodes.
 fn mine_tree(log: &[u8], tree: &mut [u8]) -> usize
     requires { ⌜ (length (now tree) ≡ 512) × SoundLog (now log) ⌝ }
@@ -59,7 +30,7 @@ fn mine_tree(log: &[u8], tree: &mut [u8]) -> usize
 {
     clear(tree, 512);
     let v = roots::root_of(log);
-    let nodes = mine_node(log, tree, v, 0);
+    let nodes = growing::mine_node(log, tree, v, 0);
     seals::seal(tree);
     nodes
 }

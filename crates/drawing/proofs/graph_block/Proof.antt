@@ -9,7 +9,7 @@ use Rattle.records.proofs.RecordLaws.{frame-fits}
 use Rattle.tables.proofs.TableLaws.{owned-field}
 use Rattle.views.specs.Sublogs.{sight}
 use Rattle.views.proofs.PassLaws.{records-end, records-stop, records-next}
-use Rattle.drawing.specs.Growing.{withPieces, graphOf}
+use Rattle.trails.specs.Growing.{withPieces, graphOf}
 use Rattle.drawing.proofs.PassLaws.{graph-nil, graph-append}
 use Rattle.drawing.proofs.graph_block.Statement.{statement}
 use Rattle.drawing.proofs.graph_block.Tie as tie

@@ -5,10 +5,10 @@ use lib.ListN.{length}
 use Rattle.rules.specs.LogBlock.{logEpisodes, episodesFrom}
 use Rattle.graphs.specs.Edges.{meant}
 use Rattle.views.specs.Sublogs.{sight}
-use Rattle.drawing.specs.Growing.{withPieces}
+use Rattle.trails.specs.Growing.{withPieces}
 use Rattle.views.proofs.PassLaws.{blocks-end, blocks-next}
 use Rattle.drawing.proofs.PassLaws.{graph-nil, graph-append}
-use Rattle.drawing.proofs.TrailLaws.{drawn-from}
+use Rattle.trails.proofs.TrailLaws.{drawn-from}
 use borrow.Author.Needs.{needs}
 use Rattle.drawing.proofs.graph_of.Statement.{statement}
 use Rattle.drawing.proofs.graph_of.Tie as tie

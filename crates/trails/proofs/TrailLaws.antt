@@ -18,8 +18,8 @@ use Rattle.graphs.specs.Edges.{edgeOf, meant, Bare, Noted, Started, Ended}
 use Rattle.graphs.specs.declared.Graph.{Graph}
 use Rattle.views.specs.Sublogs.{Walk, stepBy, done, Sight, emptyIf, piecesOf, shown, drawn}
 use Rattle.views.proofs.PassLaws.{any-append}
-use Rattle.drawing.specs.declared.Trail.{Trail}
-use Rattle.drawing.specs.Growing.{joined, withPieces, resumed, trailed, addsNothing, lastAfter}
+use Rattle.trails.specs.declared.Trail.{Trail}
+use Rattle.trails.specs.Growing.{joined, withPieces, resumed, trailed, addsNothing, lastAfter}
 use Rattle.views.proofs.SetLaws.{has-below}
 
 -- ---- joining logs to a graph

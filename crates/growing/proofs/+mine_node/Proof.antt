@@ -10,20 +10,20 @@ use Rattle.codes.specs.Bits.{listed}
 use Rattle.views.specs.Sublogs.{sight, sublog, partSight}
 use Rattle.bases.specs.Writing.{WroteTree}
 use Rattle.planning.proofs.PlannedLaws.{missed-bit}
-use Rattle.mining.proofs.NodeLaws.{restOf, Growing, node-base, node-start, node-room, node-next, node-wrote, child-fewer, child-ready, child-next, child-long}
+use Rattle.growing.proofs.NodeLaws.{restOf, Growing, node-base, node-start, node-room, node-next, node-wrote, child-fewer, child-ready, child-next, child-long}
 use Prim.Native.Nat.{ℕ, _-_, _<_, _≤_}
 use borrow.Fn.Kinds.{In}
 use borrow.Fn.PlainCycle.{Measures, is, falls, and}
-use Rattle.mining.proofs.mine_node.Reads as mine-node
-use Rattle.mining.proofs.mine_node.Kinds as mine-node-kinds
-use Rattle.mining.proofs.+mine_node.Lts-mine_node as mine-node-lts
+use Rattle.growing.proofs.mine_node.Reads as mine-node
+use Rattle.growing.proofs.mine_node.Kinds as mine-node-kinds
+use Rattle.growing.proofs.+mine_node.Lts-mine_node as mine-node-lts
 use Rattle.bases.proofs.base.Reads as base-reads
 use Rattle.bases.proofs.byte.Reads as byte-reads
 use Rattle.planning.proofs.planned.Reads as planned-reads
 use Rattle.entries.proofs.put.Reads as put-reads
 use Rattle.views.proofs.part_of.Reads as part-of-reads
-use Rattle.mining.proofs.+mine_node.{statement}
-use Rattle.mining.proofs.+mine_node.Tie.{close}
+use Rattle.growing.proofs.+mine_node.{statement}
+use Rattle.growing.proofs.+mine_node.Tie.{close}
 
 abbrev μ-mine-node : Measures 2 mine-node-kinds.ps ℕ
 μ-mine-node κs a = length (listed 32 (a .1 .1 .0 .keep .bits))

@@ -11,7 +11,7 @@ use Rattle.codes.specs.declared.CodeSet.{CodeSet}
 use Rattle.graphs.specs.declared.Graph.{Graph}
 use Rattle.graphs.specs.Edges.{meant}
 use Rattle.views.specs.Sublogs.{Walk, done, Sight, piecesOf}
-use Rattle.drawing.specs.declared.Trail.{Trail}
+use Rattle.trails.specs.declared.Trail.{Trail}
 
 -- a graph with a log's pairs, starts and ends besides its own
 unfoldable pub joined : mining.Graph → Log → mining.Graph

@@ -12,9 +12,9 @@ use Rattle.graphs.specs.declared.Graph.{Graph}
 use Rattle.graphs.specs.Edges.{meant}
 use Rattle.views.specs.Sublogs.{Set, Sight, Walk, stepBy, walk, done}
 use Rattle.views.proofs.PassLaws.{pieces-one}
-use Rattle.drawing.specs.declared.Trail.{Trail}
-use Rattle.drawing.specs.Growing.{joined, withPieces, resumed, trailed}
-use Rattle.drawing.proofs.TrailLaws.{joined-nil}
+use Rattle.trails.specs.declared.Trail.{Trail}
+use Rattle.trails.specs.Growing.{joined, withPieces, resumed, trailed}
+use Rattle.trails.proofs.TrailLaws.{joined-nil}
 
 -- before the first code
 pub trail-start : (s : Sight) (g : mining.Graph) (last : ℕ) (codes : List ℕ) → withPieces s g (codes ∷ []) ≡ resumed false last (walk (s .kept) (s .breaks) codes) g

@@ -23,7 +23,7 @@ use Rattle.views.specs.Sublogs.{Sight, shown, sight, sublog, Tight, partSight}
 use Rattle.views.proofs.TightLaws.{tight-below, part-shows, part-tight, part-tree}
 use Rattle.bases.specs.Writing.{laid, WroteTree}
 use Rattle.planning.specs.Plans.{baseShape, baseTree}
-use Rattle.mining.specs.Ready.{Ready}
+use Rattle.growing.specs.Ready.{Ready}
 use Rattle.bases.proofs.WritingLaws.{laid-nil, laid-before, wrote-length, wrote-next}
 use Rattle.planning.proofs.PlanLaws.{tree-base, tree-cut}
 

@@ -7,12 +7,12 @@ use mathlib.Core.List.{[], _∷_}
 use Rattle.codes.specs.Bits.{has}
 use Rattle.graphs.specs.Edges.{meant}
 use Rattle.views.specs.Sublogs.{walk, sight}
-use Rattle.drawing.specs.Growing.{withPieces, trailed}
-use Rattle.drawing.proofs.TurnLaws.{trail-start, trail-next, trail-end}
-use Rattle.drawing.proofs.TrailLaws.{Turn, turn-noted, turn-step, turn-pass}
+use Rattle.trails.specs.Growing.{withPieces, trailed}
+use Rattle.trails.proofs.TurnLaws.{trail-start, trail-next, trail-end}
+use Rattle.trails.proofs.TrailLaws.{Turn, turn-noted, turn-step, turn-pass}
 use borrow.Author.Needs.{needs}
-use Rattle.drawing.proofs.graph_codes.Statement.{statement}
-use Rattle.drawing.proofs.graph_codes.Tie as tie
+use Rattle.trails.proofs.graph_codes.Statement.{statement}
+use Rattle.trails.proofs.graph_codes.Tie as tie
 
 abbrev Inv-loop : tie.InvT-loop
 Inv-loop codes v keep watched h₀ last₀ i₀ h last i =

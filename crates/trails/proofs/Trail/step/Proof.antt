@@ -1,7 +1,7 @@
-use Rattle.drawing.proofs.TrailLaws.{step-event, step-stop, step-pass}
+use Rattle.trails.proofs.TrailLaws.{step-event, step-stop, step-pass}
 use borrow.Author.Needs.{needs}
-use Rattle.drawing.proofs.Trail.step.Statement.{statement}
-use Rattle.drawing.proofs.Trail.step.Tie as tie
+use Rattle.trails.proofs.Trail.step.Statement.{statement}
+use Rattle.trails.proofs.Trail.step.Tie as tie
 
 has-requires : tie.Need-has-requires
 has-requires c κs = search needs

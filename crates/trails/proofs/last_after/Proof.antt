@@ -2,8 +2,8 @@ use mathlib.Core.Path.{_≡_, refl, sym}
 use mathlib.Core.Bool.{true, false}
 use Rattle.codes.specs.Bits.{has}
 use borrow.Author.Needs.{needs}
-use Rattle.drawing.proofs.last_after.Statement.{statement}
-use Rattle.drawing.proofs.last_after.Tie as tie
+use Rattle.trails.proofs.last_after.Statement.{statement}
+use Rattle.trails.proofs.last_after.Tie as tie
 
 has-requires : tie.Need-has-requires
 has-requires c κs = search needs

@@ -1,7 +1,7 @@
-use Rattle.drawing.proofs.TrailLaws.{event-on, event-first}
+use Rattle.trails.proofs.TrailLaws.{event-on, event-first}
 use borrow.Author.Needs.{needs}
-use Rattle.drawing.proofs.Trail.event.Statement.{statement}
-use Rattle.drawing.proofs.Trail.event.Tie as tie
+use Rattle.trails.proofs.Trail.event.Statement.{statement}
+use Rattle.trails.proofs.Trail.event.Tie as tie
 
 noted-requires : tie.Need-noted-requires
 noted-requires c κs = search needs

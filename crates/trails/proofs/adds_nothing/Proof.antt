@@ -1,7 +1,7 @@
-use Rattle.drawing.proofs.TrailLaws.{nothing-pair, nothing-start, nothing-end, nothing-open}
+use Rattle.trails.proofs.TrailLaws.{nothing-pair, nothing-start, nothing-end, nothing-open}
 use borrow.Author.Needs.{needs}
-use Rattle.drawing.proofs.adds_nothing.Statement.{statement}
-use Rattle.drawing.proofs.adds_nothing.Tie as tie
+use Rattle.trails.proofs.adds_nothing.Statement.{statement}
+use Rattle.trails.proofs.adds_nothing.Tie as tie
 
 has-requires : tie.Need-has-requires
 has-requires c κs = search needs

@@ -1,7 +1,7 @@
-use Rattle.drawing.proofs.TrailLaws.{stop-open, stop-closed}
+use Rattle.trails.proofs.TrailLaws.{stop-open, stop-closed}
 use borrow.Author.Needs.{needs}
-use Rattle.drawing.proofs.Trail.ended.Statement.{statement}
-use Rattle.drawing.proofs.Trail.ended.Tie as tie
+use Rattle.trails.proofs.Trail.ended.Statement.{statement}
+use Rattle.trails.proofs.Trail.ended.Tie as tie
 
 ended-requires : tie.Need-ended-requires
 ended-requires c κs = search needs

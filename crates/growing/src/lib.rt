@@ -1,0 +1,33 @@
+// The tree of a view's sublog, written node by node.
+use codes::CodeSet;
+use views::View;
+ghost use mathlib.Core.Path.{_≡_};
+ghost use Rattle.rules.specs.Mining.{mined};
+ghost use Rattle.rules.specs.LogBlock.{logEpisodes};
+ghost use Rattle.views.specs.Sublogs.{sublog};
+ghost use Rattle.bases.specs.Writing.{WroteTree};
+ghost use Rattle.growing.specs.Ready.{Ready};
+
+// Writes the tree of a view's sublog from an entry on, and answers the next entry.
+pub fn mine_node(log: &[u8], tree: &mut [u8], v: View, at: usize) -> usize
+    requires { ⌜ Ready (logEpisodes 1 (now log)) v (now tree) at ⌝ }
+    ensures { λ r. ⌜ WroteTree (mined 32 (sublog v (logEpisodes 1 (now (log .entry))))) at (now (tree .entry)) r (now (tree .exit)) ⌝ }
+{
+    let plan = planning::planned(log, v);
+    let kind = plan.kind;
+    if kind < 3 {
+        let keep = v.keep;
+        return bases::base(tree, at, kind, keep);
+    }
+    let n = plan.n;
+    let mut next = at + 1;
+    let mut i: usize = 0;
+    while i < n {
+        let part = CodeSet { bits: plan.sets[i] };
+        let w = views::part_of(v, kind, part, (plan.missed >> i) % 2 == 1);
+        next = mine_node(log, tree, w, next);
+        i += 1;
+    }
+    entries::put(tree, at, kind, bases::byte(n), bases::byte(next - at));
+    next
+}
