@@ -1,6 +1,5 @@
 -- What each code of a record adds to the parts that are missed.
 use mathlib.Core.Path.{_≡_, refl, sym, _∙_, ap}
-use mathlib.Core.Logic.{_⊎_, inl, inr}
 use mathlib.Core.List.{List, [], _∷_}
 use mathlib.Core.Bool.{Bool, true, false, not, _&&_, _||_}
 use Prim.Native.Nat.{ℕ, _+_, _^_, _≤_, _<_}
@@ -9,11 +8,10 @@ use native.Mathlib.Omega.{arith}
 use lib.Dec.{eqb, ltb}
 use lib.ListN.{length, getD, drop, drop-of-length-le}
 use lib.Seq.{drop-cons}
-use borrow.Author.Tests.{eqb-true, eq-eqb, lt-ltb, not-true}
+use borrow.Author.Tests.{eqb-true, eq-eqb, lt-ltb}
 use Rattle.rules.specs.Words.{any, push, keep, mem, from}
 use Rattle.rules.specs.Mining.{isEmpty, project}
-use Rattle.rules.proofs.BoolLaws.{bool-cases, bool-ext, and-cases, or-off, or-right}
-use Rattle.rules.proofs.FilterLaws.{any-ext}
+use Rattle.rules.proofs.BoolLaws.{bool-ext, or-right}
 use Rattle.rules.proofs.ListLaws.{has-mem, has-from}
 use Rattle.codes.specs.Bits.{has, listed}
 use Rattle.codes.proofs.BitLaws.{has-zero}
@@ -53,170 +51,103 @@ end-on p false false = refl
 
 -- ---- the events of the open sub-episode, as a set
 
--- the kept codes among those seen
-abbrev pub ownOf : ℕ → ℕ → Set
-ownOf seen k x = has seen x && has k x
+no-event : (xs : List ℕ) → any (has 0) xs ≡ false
+no-event [] = refl
+no-event (x ∷ xs) = (λ i. has-zero x i || any (has 0) xs) ∙ no-event xs
 
-no-own : (k : ℕ) (xs : List ℕ) → any (ownOf 0 k) xs ≡ false
-no-own k [] = refl
-no-own k (x ∷ xs) = (λ i. (has-zero x i && has k x) || any (ownOf 0 k) xs) ∙ no-own k xs
+-- one more event
+any-more : (seen next c : ℕ) → c < 32 → ((y : ℕ) → has next y ≡ (has seen y || (ltb c 32 && eqb y c))) → (xs : List ℕ) → any (has next) xs ≡ (any (has seen) xs || mem c xs)
+any-more seen next c l grew [] = refl
+any-more seen next c l grew (y ∷ xs) =
+    (λ i. (grew y ∙ ap (λ (t : Bool). has seen y || (t && eqb y c)) (lt-ltb c 32 l)) i || any-more seen next c l grew xs i)
+    ∙ turn (has seen y) (eqb y c) (any (has seen) xs) (mem c xs)
+    ∙ ap (λ (t : Bool). (has seen y || any (has seen) xs) || (t || mem c xs)) (eqb-turn y c)
+  where
+    turn : (a e b m : Bool) → ((a || e) || (b || m)) ≡ ((a || b) || (e || m))
+    turn true e b m = refl
+    turn false true true m = refl
+    turn false true false m = refl
+    turn false false b m = refl
 
--- one more code, an event or not
-module _ (seen next k c : ℕ) (small : k < 2 ^ 32) (grew : (y : ℕ) → has next y ≡ (has seen y || (ltb c 32 && eqb y c))) where
-  one-more : (y : ℕ) → ownOf next k y ≡ (ownOf seen k y || (has k c && eqb y c))
-  one-more y = ap (λ (t : Bool). t && has k y) (grew y) ∙ by (bool-cases (eqb y c)) (bool-cases (has k c))
-    where
-      off : (a b l : Bool) → ((a || (l && false)) && b) ≡ ((a && b) || false)
-      off true true l = refl
-      off true false l = refl
-      off false b true = refl
-      off false b false = refl
-
-      and-off : (t : Bool) → (t && false) ≡ false
-      and-off true = refl
-      and-off false = refl
-
-      or-true : (t : Bool) → (t || true) ≡ true
-      or-true true = refl
-      or-true false = refl
-
-      kept-here : eqb y c ≡ true → has k y ≡ has k c
-      kept-here e = ap (has k) (eqb-true y c e)
-
-      by : (eqb y c ≡ true) ⊎ (eqb y c ≡ false) → (has k c ≡ true) ⊎ (has k c ≡ false) →
-          ((has seen y || (ltb c 32 && eqb y c)) && has k y) ≡ ((has seen y && has k y) || (has k c && eqb y c))
-      by (inr n) _ =
-          ap (λ (t : Bool). (has seen y || (ltb c 32 && t)) && has k y) n ∙ off (has seen y) (has k y) (ltb c 32)
-          ∙ sym (ap (λ (t : Bool). (has seen y && has k y) || (has k c && t)) n ∙ ap (_||_ (has seen y && has k y)) (and-off (has k c)))
-      by (inl e) (inl y1) =
-          (λ i. (has seen y || (lt-ltb c 32 (has-below 32 k c small y1) i && e i)) && (kept-here e ∙ y1) i)
-          ∙ ap (λ (t : Bool). t && true) (or-true (has seen y))
-          ∙ sym ((λ i. (has seen y && has k y) || (y1 i && e i)) ∙ or-true (has seen y && has k y))
-      by (inl e) (inr n1) =
-          ap (λ (t : Bool). (has seen y || (ltb c 32 && eqb y c)) && t) (kept-here e ∙ n1) ∙ and-off (has seen y || (ltb c 32 && eqb y c))
-          ∙ sym ((λ i. (has seen y && (kept-here e ∙ n1) i) || (n1 i && eqb y c)) ∙ or-off (has seen y && false) ∙ and-off (has seen y))
-
-  any-more : (q : Bool) → has k c ≡ q → (xs : List ℕ) → any (ownOf next k) xs ≡ (any (ownOf seen k) xs || (q && mem c xs))
-  any-more q e [] = by q
-    where
-      by : (q : Bool) → false ≡ (false || (q && false))
-      by true = refl
-      by false = refl
-  any-more q e (y ∷ xs) =
-      (λ i. (one-more y ∙ ap (λ (t : Bool). ownOf seen k y || (t && eqb y c)) e) i || any-more q e xs i)
-      ∙ turn (ownOf seen k y) q (eqb y c) (any (ownOf seen k) xs) (mem c xs)
-      ∙ ap (λ (t : Bool). (ownOf seen k y || any (ownOf seen k) xs) || (q && (t || mem c xs))) (eqb-turn y c)
-    where
-      turn : (a q e b m : Bool) → ((a || (q && e)) || (b || (q && m))) ≡ ((a || b) || (q && (e || m)))
-      turn true q e b m = refl
-      turn false true true true m = refl
-      turn false true true false m = refl
-      turn false true false b m = refl
-      turn false false e b m = refl
-
-      eqb-turn : (a b : ℕ) → eqb a b ≡ eqb b a
-      eqb-turn a b = bool-ext (eqb a b) (eqb b a) (λ e. eq-eqb b a (sym (eqb-true a b e))) (λ e. eq-eqb a b (sym (eqb-true b a e)))
+    eqb-turn : (a b : ℕ) → eqb a b ≡ eqb b a
+    eqb-turn a b = bool-ext (eqb a b) (eqb b a) (λ e. eq-eqb b a (sym (eqb-true a b e))) (λ e. eq-eqb a b (sym (eqb-true b a e)))
 
 -- ---- the loop over a record's codes
 
 -- the parts that are missed, with those that the rest of a walk lacks
-pub restMissed : List ℕ → ℕ → ℕ → ℕ → Walk → Set
-restMissed sets k m seen w j =
-    has m j || (ltb j (length sets) && lackingOn (partAt sets j) (any (ownOf seen k) (partAt sets j)) (any (ownOf seen k) (from 0 32)) w)
+pub restMissed : List ℕ → ℕ → ℕ → Walk → Set
+restMissed sets m seen w j =
+    has m j || (ltb j (length sets) && lackingOn (partAt sets j) (any (has seen) (partAt sets j)) (any (has seen) (from 0 32)) w)
 
 -- before the first code
-pub missed-start : (s : Sight) (sets : List ℕ) (k m seen : ℕ) (codes : List ℕ) → seen ≡ 0 →
-    missedBy s sets (has m) (codes ∷ []) ≡ restMissed sets k m seen (walk (s .kept) (s .breaks) codes)
+pub missed-start : (s : Sight) (sets : List ℕ) (m seen : ℕ) (codes : List ℕ) → seen ≡ 0 →
+    missedBy s sets (has m) (codes ∷ []) ≡ restMissed sets m seen (walk (s .kept) (s .breaks) codes)
 unfolding missedBy restMissed lackingOn
-missed-start s sets k m seen codes e = λ i j.
+missed-start s sets m seen codes e = λ i j.
     (ap (λ (l : List (List ℕ)). has m j || (ltb j (length sets) && any (lacks (partAt sets j)) l)) (sym (pieces-one s codes))
-    ∙ (λ h. has m j || (ltb j (length sets) && lackingOn (partAt sets j) (sym (no-own k (partAt sets j)) h) (sym (no-own k (from 0 32)) h) (walk (s .kept) (s .breaks) codes)))
-    ∙ ap (λ (x : ℕ). restMissed sets k m x (walk (s .kept) (s .breaks) codes) j) (sym e)) i
+    ∙ (λ h. has m j || (ltb j (length sets) && lackingOn (partAt sets j) (sym (no-event (partAt sets j)) h) (sym (no-event (from 0 32)) h) (walk (s .kept) (s .breaks) codes)))
+    ∙ ap (λ (x : ℕ). restMissed sets m x (walk (s .kept) (s .breaks) codes) j) (sym e)) i
 
-module _ (codes sets : List ℕ) (i k b m seen : ℕ) (all : Set) (inv : all ≡ restMissed sets k m seen (walk (has k) (has b) (drop i codes))) where
+module _ (codes sets : List ℕ) (i k b m seen : ℕ) (all : Set) (inv : all ≡ restMissed sets m seen (walk (has k) (has b) (drop i codes))) where
   abbrev here : ℕ
   here = getD codes i 0
 
   abbrev rest : Walk
   rest = walk (has k) (has b) (drop (i + 1) codes)
 
-  walk-next : i < length codes → walk (has k) (has b) (drop i codes) ≡ stepBy (has k here) (has b here) here (walk (has k) (has b) (drop (i + 1) codes))
+  walk-next : i < length codes → walk (has k) (has b) (drop i codes) ≡ stepBy (has k here) (has b here) here rest
   walk-next h = ap (walk (has k) (has b)) (rest-is h)
     where
       rest-is : i < length codes → drop i codes ≡ here ∷ drop (i + 1) codes
       rest-is l = rw (add-one, drop-cons codes i 0)
 
-  -- a set with exactly the events has what they have
-  any-own : (own : ℕ) → ((y : ℕ) → has own y ≡ (has seen y && has k y)) → (xs : List ℕ) → any (has own) xs ≡ any (ownOf seen k) xs
-  any-own own o xs = any-ext (has own) (ownOf seen k) xs (λ y q. o y)
+  module _ (h : i < length codes) (t : Bool) (call : t ≡ has k here) where
+    -- an event
+    pub missed-event : k < 2 ^ 32 → t ≡ true → (next : ℕ) → ((y : ℕ) → has next y ≡ (has seen y || (ltb here 32 && eqb y here))) → all ≡ restMissed sets m next rest
+    unfolding restMissed
+    missed-event small on next grew = λ g j.
+        (ap (λ (f : Set). f j) inv
+        ∙ ap (λ (w : Walk). restMissed sets m seen w j) (walk-next h)
+        ∙ ap (λ (u : Bool). restMissed sets m seen (stepBy u (has b here) here rest) j) kept
+        ∙ ap (λ (u : Bool). has m j || (ltb j (length sets) && u)) (sym (event-on (partAt sets j) here rest (mem here (partAt sets j)) refl (any (has seen) (partAt sets j)) (any (has seen) (from 0 32))))
+        ∙ (λ q. has m j || (ltb j (length sets) && lackingOn (partAt sets j) (sym (any-more seen next here below grew (partAt sets j)) q) (sym (any-more seen next here below grew (from 0 32) ∙ among) q) rest))) g
+      where
+        kept : has k here ≡ true
+        kept = sym call ∙ on
 
-  -- the sub-episode ends
-  pub missed-break : i < length codes → (ends : ℕ) → ((y : ℕ) → has ends y ≡ (has b y && not (has k y))) → (t : Bool) → t ≡ has ends here → t ≡ true →
-      (own : ℕ) → ((y : ℕ) → has own y ≡ (has seen y && has k y)) → (n : ℕ) → ((j : ℕ) → has n j ≡ (has m j || lackedBy sets (has own) j)) →
-      (next : ℕ) → next ≡ 0 → all ≡ restMissed sets k n next (walk (has k) (has b) (drop (i + 1) codes))
-  unfolding restMissed
-  missed-break h ends cut t call on own o n grew next z = λ g j.
-      (ap (λ (f : Set). f j) inv
-      ∙ ap (λ (w : Walk). restMissed sets k m seen w j) (walk-next h)
-      ∙ (λ q. restMissed sets k m seen (stepBy (off q) (at q) here rest) j)
-      ∙ ap (λ (u : Bool). has m j || (ltb j (length sets) && u)) (sym (break-on (partAt sets j) rest (any (ownOf seen k) (partAt sets j)) (any (ownOf seen k) (from 0 32))))
-      ∙ sym (both (has m j) (ltb j (length sets)) (any (ownOf seen k) (from 0 32) && not (any (ownOf seen k) (partAt sets j))) (lackingOn (partAt sets j) false false rest))
-      ∙ (λ q. (has m j || (ltb j (length sets) && (sym (any-own own o (from 0 32)) q && not (sym (any-own own o (partAt sets j)) q)))) || (ltb j (length sets) && lackingOn (partAt sets j) (sym (no-own k (partAt sets j)) q) (sym (no-own k (from 0 32)) q) rest))
-      ∙ ap (λ (u : Bool). u || (ltb j (length sets) && lackingOn (partAt sets j) (any (ownOf 0 k) (partAt sets j)) (any (ownOf 0 k) (from 0 32)) rest)) (sym (grew j))
-      ∙ ap (λ (x : ℕ). restMissed sets k n x rest j) (sym z)) g
-    where
-      told : (has b here ≡ true) × (not (has k here) ≡ true)
-      told = and-cases (has b here) (not (has k here)) (sym (cut here) ∙ sym call ∙ on)
+        below : here < 32
+        below = has-below 32 k here small kept
 
-      at : has b here ≡ true
-      at = told .0
+        among : (any (has seen) (from 0 32) || mem here (from 0 32)) ≡ true
+        among = or-right (any (has seen) (from 0 32)) (mem here (from 0 32)) (has-mem here (from 0 32) (has-from 32 0 here (omega arith) (let l = below in omega arith)))
 
-      off : has k here ≡ false
-      off = not-true (has k here) (told .1)
-
-      both : (t l a c : Bool) → ((t || (l && a)) || (l && c)) ≡ (t || (l && (a || c)))
-      both true l a c = refl
-      both false true a c = refl
-      both false false a c = refl
-
-  -- the code is an event, or passed over
-  pub missed-code : k < 2 ^ 32 → i < length codes → (ends : ℕ) → ((y : ℕ) → has ends y ≡ (has b y && not (has k y))) → (t : Bool) → t ≡ has ends here → t ≡ false →
-      (next : ℕ) → ((y : ℕ) → has next y ≡ (has seen y || (ltb here 32 && eqb y here))) → all ≡ restMissed sets k m next (walk (has k) (has b) (drop (i + 1) codes))
-  unfolding restMissed
-  missed-code small h ends cut t call out next grew = λ g j.
-      (ap (λ (f : Set). f j) inv ∙ ap (λ (w : Walk). restMissed sets k m seen w j) (walk-next h) ∙ by (bool-cases (has k here)) j) g
-    where
-      passed : has k here ≡ false → has b here ≡ false
-      passed off = by-and (has b here) (sym (ap (λ (u : Bool). has b here && not u) off) ∙ sym (cut here) ∙ sym call ∙ out)
+    module _ (off : t ≡ false) (u : Bool) (told : u ≡ has b here) where
+      -- the sub-episode ends
+      pub missed-break : u ≡ true → (n : ℕ) → ((j : ℕ) → has n j ≡ (has m j || lackedBy sets (has seen) j)) → (next : ℕ) → next ≡ 0 → all ≡ restMissed sets n next rest
+      unfolding restMissed
+      missed-break on n grew next z = λ g j.
+          (ap (λ (f : Set). f j) inv
+          ∙ ap (λ (w : Walk). restMissed sets m seen w j) (walk-next h)
+          ∙ (λ q. restMissed sets m seen (stepBy ((sym call ∙ off) q) ((sym told ∙ on) q) here rest) j)
+          ∙ ap (λ (v : Bool). has m j || (ltb j (length sets) && v)) (sym (break-on (partAt sets j) rest (any (has seen) (partAt sets j)) (any (has seen) (from 0 32))))
+          ∙ sym (both (has m j) (ltb j (length sets)) (any (has seen) (from 0 32) && not (any (has seen) (partAt sets j))) (lackingOn (partAt sets j) false false rest))
+          ∙ (λ q. sym (grew j) q || (ltb j (length sets) && lackingOn (partAt sets j) (sym (no-event (partAt sets j)) q) (sym (no-event (from 0 32)) q) rest))
+          ∙ ap (λ (x : ℕ). restMissed sets n x rest j) (sym z)) g
         where
-          by-and : (u : Bool) → (u && true) ≡ false → u ≡ false
-          by-and true e = e
-          by-and false e = refl
+          both : (t l a c : Bool) → ((t || (l && a)) || (l && c)) ≡ (t || (l && (a || c)))
+          both true l a c = refl
+          both false true a c = refl
+          both false false a c = refl
 
-      nothing-more : (u v : Bool) → (u || (false && v)) ≡ u
-      nothing-more true v = refl
-      nothing-more false v = refl
-
-      among : has k here ≡ true → (any (ownOf seen k) (from 0 32) || (true && mem here (from 0 32))) ≡ true
-      among on = or-right (any (ownOf seen k) (from 0 32)) (mem here (from 0 32)) (has-mem here (from 0 32) (has-from 32 0 here (omega arith) (let l = has-below 32 k here small on in omega arith)))
-
-      by : (has k here ≡ true) ⊎ (has k here ≡ false) → (j : ℕ) → restMissed sets k m seen (stepBy (has k here) (has b here) here rest) j ≡ restMissed sets k m next rest j
-      by (inl on) j =
-          ap (λ (u : Bool). restMissed sets k m seen (stepBy u (has b here) here rest) j) on
-          ∙ ap (λ (u : Bool). has m j || (ltb j (length sets) && u)) (sym (event-on (partAt sets j) here rest (mem here (partAt sets j)) refl (any (ownOf seen k) (partAt sets j)) (any (ownOf seen k) (from 0 32))))
-          ∙ (λ q. has m j || (ltb j (length sets) && lackingOn (partAt sets j) (sym (any-more seen next k here small grew true on (partAt sets j)) q) (sym (any-more seen next k here small grew true on (from 0 32) ∙ among on) q) rest))
-      by (inr off) j =
-          (λ q. restMissed sets k m seen (stepBy (off q) (passed off q) here rest) j)
-          ∙ (λ q. has m j || (ltb j (length sets) && lackingOn (partAt sets j)
-          (sym (any-more seen next k here small grew false off (partAt sets j) ∙ nothing-more (any (ownOf seen k) (partAt sets j)) (mem here (partAt sets j))) q)
-          (sym (any-more seen next k here small grew false off (from 0 32) ∙ nothing-more (any (ownOf seen k) (from 0 32)) (mem here (from 0 32))) q) rest))
+      -- the code is passed over
+      pub missed-pass : u ≡ false → all ≡ restMissed sets m seen rest
+      missed-pass out = inv ∙ ap (restMissed sets m seen) (walk-next h ∙ (λ q. stepBy ((sym call ∙ off) q) ((sym told ∙ out) q) here rest))
 
   -- the record ends
-  pub missed-end : length codes ≤ i → (own : ℕ) → ((y : ℕ) → has own y ≡ (has seen y && has k y)) → (r : ℕ) → ((j : ℕ) → has r j ≡ (has m j || lackedBy sets (has own) j)) → has r ≡ all
+  pub missed-end : length codes ≤ i → (r : ℕ) → ((j : ℕ) → has r j ≡ (has m j || lackedBy sets (has seen) j)) → has r ≡ all
   unfolding restMissed
-  missed-end h own o r grew = λ g j.
+  missed-end h r grew = λ g j.
       (grew j
-      ∙ (λ q. has m j || (ltb j (length sets) && (any-own own o (from 0 32) q && not (any-own own o (partAt sets j) q))))
-      ∙ ap (λ (u : Bool). has m j || (ltb j (length sets) && u)) (end-on (partAt sets j) (any (ownOf seen k) (partAt sets j)) (any (ownOf seen k) (from 0 32)))
-      ∙ ap (λ (w : Walk). restMissed sets k m seen w j) (sym (ap (walk (has k) (has b)) (drop-of-length-le codes h)))
+      ∙ ap (λ (u : Bool). has m j || (ltb j (length sets) && u)) (end-on (partAt sets j) (any (has seen) (partAt sets j)) (any (has seen) (from 0 32)))
+      ∙ ap (λ (w : Walk). restMissed sets m seen w j) (sym (ap (walk (has k) (has b)) (drop-of-length-le codes h)))
       ∙ ap (λ (f : Set). f j) (sym inv)) g

@@ -43,21 +43,20 @@ fn missed_codes(codes: &[u8], v: View, sets: &[u32], missed: u32) -> u32
 {
     let keep = v.keep;
     let breaks = v.breaks;
-    let ends = breaks.minus(keep);
     let mut m = missed;
     let mut seen = CodeSet::none();
     let mut i: usize = 0;
     while i < codes.len() {
         let c = codes[i];
         i += 1;
-        if ends.has(c) {
-            m = with_lacked(seen.meet(keep), sets, m);
-            seen = CodeSet::none();
-        } else {
+        if keep.has(c) {
             seen = seen.with(c);
+        } else if breaks.has(c) {
+            m = with_lacked(seen, sets, m);
+            seen = CodeSet::none();
         }
     }
-    with_lacked(seen.meet(keep), sets, m)
+    with_lacked(seen, sets, m)
 }
 
 // The parts that a sub-episode of one block's records lacks, besides those missed before.

@@ -10,6 +10,7 @@ use lib.Seq.{drop-cons}
 use borrow.Author.Tests.{eqb-true}
 use Rattle.rules.specs.Words.{mem}
 use Rattle.codes.specs.Bits.{has}
+use Rattle.codes.proofs.BitLaws.{has-every}
 
 module _ (codes : List ℕ) (i : ℕ) where
   rest-next : i < length codes → drop i codes ≡ getD codes i 0 ∷ drop (i + 1) codes
@@ -41,3 +42,13 @@ module _ (codes : List ℕ) (i : ℕ) where
         by true t = refl
         by false true = refl
         by false false = refl
+
+-- every code has been met
+pub codes-full : (k : ℕ) (codes : List ℕ) → k ≡ 4294967295 → (j : ℕ) → has k j ≡ (has k j || (ltb j 32 && mem j codes))
+codes-full k codes e j =
+    let f : has k j ≡ ltb j 32 = ap (λ (x : ℕ). has x j) e ∙ has-every 32 j in
+    f ∙ by (ltb j 32) (mem j codes) ∙ ap (λ (t : Bool). t || (ltb j 32 && mem j codes)) (sym f)
+  where
+    by : (t m : Bool) → t ≡ (t || (t && m))
+    by true m = refl
+    by false m = refl

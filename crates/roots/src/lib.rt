@@ -14,10 +14,13 @@ ghost use Rattle.codes.specs.Bits.{has};
 ghost use Rattle.views.specs.Sublogs.{sight, rootSight};
 ghost use Rattle.roots.specs.Widened.{widened};
 
-// A set with one record's codes besides its own.
+// A set with one record's codes besides its own. Where every code has been met there is nothing to look for.
 fn met_codes(codes: &[u8], keep: CodeSet) -> CodeSet
     ensures { λ r. ⌜ ((i : ℕ) → has (r .bits) i ≡ (has (keep .bits) i || (ltb i 32 && mem i (now (codes .entry))))) ⌝ }
 {
+    if keep.bits == 4294967295 {
+        return keep;
+    }
     let mut k = keep;
     let mut i: usize = 0;
     while i < codes.len() {

@@ -6,7 +6,7 @@ use lib.ListN.{length, drop}
 use lib.Dec.{ltb}
 use Rattle.codes.specs.Bits.{has}
 use Rattle.rules.specs.Words.{mem}
-use Rattle.roots.proofs.CodeLaws.{codes-next, codes-end}
+use Rattle.roots.proofs.CodeLaws.{codes-next, codes-end, codes-full}
 use borrow.Author.Needs.{needs}
 use Rattle.roots.proofs.met_codes.Statement.{statement}
 use Rattle.roots.proofs.met_codes.Tie as tie
@@ -16,6 +16,9 @@ Inv-loop codes k₀ i₀ k i = ((j : ℕ) → (has (k₀ .bits) j || (ltb j 32 &
 
 abbrev μ-loop : tie.MeasureT-loop
 μ-loop codes k₀ i₀ k i = length codes - i
+
+returns : tie.Need-returns Inv-loop μ-loop
+returns c = let a = c .before .before .before .args in codes-full (a .keep .bits) (a .codes .now) (c .if1 .taken)
 
 loop-holds : tie.Need-loop-holds Inv-loop μ-loop
 loop-holds c = ((λ j. refl), omega arith)
@@ -34,13 +37,13 @@ loop-less c = search needs
 
 loop-again : tie.Need-loop-again Inv-loop μ-loop
 loop-again c =
-    let a = c .before .before .before .before .before .args in
+    let a = c .before .before .before .before .before .before .before .args in
     let e = c .before .before .before .loop in
     (codes-next (a .codes .now) (e .i) (e .k .bits) _ (e .inv .0) (c .before .before .loop-test .taken) (c .with .result .bits) (c .with .ensures), omega arith)
 
-returns : tie.Need-returns Inv-loop μ-loop
-returns c j =
-    let a = c .before .before .before .args in
+returns-2 : tie.Need-returns-2 Inv-loop μ-loop
+returns-2 c j =
+    let a = c .before .before .before .before .before .args in
     let e = c .before .loop in
     codes-end (a .codes .now) (e .i) (e .k .bits) _ (e .inv .0) (c .loop-test .left) j
 
@@ -50,10 +53,11 @@ met-codes-spec =
     (tie.spec
     Inv-loop
     μ-loop
+    returns
     loop-holds
     shared-slice-read-with
     with-requires
     add-i
     loop-less
     loop-again
-    returns)
+    returns-2)
