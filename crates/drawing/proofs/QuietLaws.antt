@@ -35,10 +35,11 @@ module _ (g : Graph) (k : ℕ) where
   -- after an event the codes of its row are
   known-row : (known c row : ℕ) → c < 32 → row ≡ getD (g .rows) c 0 → ((x : ℕ) → has known x ≡ (has row x && has k x)) → Known g k c known
   known-row known c row l e h x on =
-      let p = and-cases (has row x) (has k x) (sym (h x) ∙ on) in
-      (p .1,
-      (λ i. pick (p .1 i) (pick (lt-ltb c 32 l i) (has (getD (g .rows) (mod-eq-of-lt l i) 0) x) (has (g .starts .bits) x)) (pick (lt-ltb c 32 l i) (has (g .ends .bits) c) true))
-      ∙ ap (λ (r : ℕ). has r x) (sym e) ∙ p .0)
+      let p = and-cases (has row x) (has k x) (sym (h x) ∙ on) in (
+        p .1,
+        (λ i. pick (p .1 i) (pick (lt-ltb c 32 l i) (has (getD (g .rows) (mod-eq-of-lt l i) 0) x) (has (g .starts .bits) x)) (pick (lt-ltb c 32 l i) (has (g .ends .bits) c) true))
+            ∙ ap (λ (r : ℕ). has r x) (sym e) ∙ p .0,
+      )
 
 -- what the loop keeps, whatever the starts and the breaks are that its sets were made of: so far the record adds nothing
 abbrev pub Quiet : List ℕ → List ℕ → CodeSet → ℕ → ℕ → ℕ → ℕ → ℕ → ℕ → Type 0
@@ -62,9 +63,10 @@ module _ (codes rows : List ℕ) (ends : CodeSet) (keep watched first : ℕ) whe
       quiet-event small t call on row next e h starts f b w bare =
           let g = graphOf rows starts ends in
           let now = q starts f b w bare in
-          let k = now .1 here (sym call ∙ on) in
-          (trail-next codes i keep b keep (record { graph = g; last = last }) _ (now .0) inside (record { graph = g; last = here }) (noted-event g last keep b here small (k .0) (k .1)),
-          known-row g keep next here row (has-below 32 keep here small (k .0)) e h)
+          let k = now .1 here (sym call ∙ on) in (
+            trail-next codes i keep b keep (record { graph = g; last = last }) _ (now .0) inside (record { graph = g; last = here }) (noted-event g last keep b here small (k .0) (k .1)),
+            known-row g keep next here row (has-below 32 keep here small (k .0)) e h,
+          )
 
       pub quiet-break : (v : Bool) → v ≡ has watched here → v ≡ true → (t : Bool) → t ≡ has keep here → t ≡ false → (u : Bool) → u ≡ pick (ltb last 32) (has (ends .bits) last) true → u ≡ true →
           Quiet codes rows ends keep watched first first 32 (i + 1)
@@ -72,18 +74,20 @@ module _ (codes rows : List ℕ) (ends : CodeSet) (keep watched first : ℕ) whe
           let g = graphOf rows starts ends in
           let now = q starts f b w bare in
           let none : has keep here ≡ false = sym call ∙ off in
-          let at : has b here ≡ true = rw none at (sym (w here) ∙ sym seen ∙ on) in
-          (trail-next codes i keep b keep (record { graph = g; last = last }) _ (now .0) inside (record { graph = g; last = 32 })
-          (noted-break g last keep b here none at (ap (λ (z : Bool). pick z (pick (ltb last 32) (has (getD rows (last % 32) 0) here) (has (starts .bits) here)) (pick (ltb last 32) (has (ends .bits) last) true)) none ∙ sym told ∙ noted)),
-          known-first g keep first f)
+          let at : has b here ≡ true = rw none at (sym (w here) ∙ sym seen ∙ on) in (
+            trail-next codes i keep b keep (record { graph = g; last = last }) _ (now .0) inside (record { graph = g; last = 32 })
+                (noted-break g last keep b here none at (ap (λ (z : Bool). pick z (pick (ltb last 32) (has (getD rows (last % 32) 0) here) (has (starts .bits) here)) (pick (ltb last 32) (has (ends .bits) last) true)) none ∙ sym told ∙ noted)),
+            known-first g keep first f,
+          )
 
       pub quiet-pass : keep < 2 ^ 32 → (v : Bool) → v ≡ has watched here → v ≡ false → Quiet codes rows ends keep watched first known last (i + 1)
       quiet-pass small v seen off starts f b w bare =
           let g = graphOf rows starts ends in
-          let now = q starts f b w bare in
-          (trail-next codes i keep b keep (record { graph = g; last = last }) _ (now .0) inside (record { graph = g; last = last })
-          (turn-pass g last keep b here small v (seen ∙ w here) off g last refl refl),
-          now .1)
+          let now = q starts f b w bare in (
+            trail-next codes i keep b keep (record { graph = g; last = last }) _ (now .0) inside (record { graph = g; last = last })
+                (turn-pass g last keep b here small v (seen ∙ w here) off g last refl refl),
+            now .1,
+          )
 
     pub quiet-end : length codes ≤ i → (u : Bool) → u ≡ pick (ltb last 32) (has (ends .bits) last) true → u ≡ true →
         (starts : CodeSet) → ((x : ℕ) → has first x ≡ (has (starts .bits) x && has keep x)) → (b : ℕ) → ((x : ℕ) → has watched x ≡ (has keep x || has b x)) → (bare : Bool) →

@@ -1,15 +1,16 @@
 -- The call: its refusals in their order, and what an accepted one leaves.
 use mathlib.Core.Path.{_≡_, sym, _∙_, ap, subst}
 use mathlib.Core.List.{List, _++_, append-nil}
+use mathlib.Core.Bool.{Bool, true, false}
 use Prim.Native.Nat.{ℕ, zero, suc, _+_, _-_, _%_, _≤_, _<_}
 use native.Mathlib.Nat.{zero-add}
 use native.Mathlib.Omega.{arith}
 use lib.ListN.{length, drop, drop-of-length-le}
-use borrow.Author.Tests.{lt-ltb, le-ltb, lt-leb, le-leb, eq-eqb, ne-eqb}
+use borrow.Author.Tests.{lt-leb, le-leb}
 use Rattle.rules.specs.Words.{zeros}
 use Rattle.rules.specs.Trees.{Tree, size}
 use Rattle.rules.specs.Mining.{Log, mined}
-use Rattle.rules.specs.LogBlock.{sealed}
+use Rattle.rules.specs.LogBlock.{sealed, logSized}
 use Rattle.rules.specs.TreeBlock.{entries, treeBlock}
 use Rattle.rules.specs.Calls.{told, after, cleared, logSound, mining, treeOf, MineSays}
 use Rattle.rules.specs.declared.Answer.{Answer}
@@ -25,33 +26,24 @@ use Rattle.growing.specs.Ready.{Ready}
 -- ---- the refusals, by the tests that lead to each
 
 module _ (log out work : List ℕ) where
-  pub mining-empty : length log ≡ 0 → mining 1 log out work ≡ Refused 1 0
-  unfolding mining
-  mining-empty h = simp (eq-eqb _ _ h)
-
-  module _ (z : length log ≡ 0 → ⊥) where
-    pub mining-long : 8192 < length log → mining 1 log out work ≡ Refused 1 0
+  module _ (t : Bool) (call : t ≡ logSized log) where
+    pub mining-length : t ≡ false → mining 1 log out work ≡ Refused 1 0
     unfolding mining
-    mining-long h = simp (ne-eqb _ _ z, lt-ltb _ _ h)
+    mining-length h = simp (sym call ∙ h)
 
-    module _ (s : length log ≤ 8192) where
-      pub mining-ragged : (length log % 512 ≡ 0 → ⊥) → mining 1 log out work ≡ Refused 1 0
+    module _ (whole : t ≡ true) where
+      pub mining-out : length out < 512 → mining 1 log out work ≡ Refused 2 0
       unfolding mining
-      mining-ragged h = simp (ne-eqb _ _ z, le-ltb _ _ s, ne-eqb _ _ h)
+      mining-out h = simp (sym call ∙ whole, lt-leb _ _ h)
 
-      module _ (m : length log % 512 ≡ 0) where
-        pub mining-out : length out < 512 → mining 1 log out work ≡ Refused 2 0
+      module _ (o : 512 ≤ length out) where
+        pub mining-work : length work < 16384 → mining 1 log out work ≡ Refused 3 0
         unfolding mining
-        mining-out h = simp (ne-eqb _ _ z, le-ltb _ _ s, eq-eqb _ _ m, lt-leb _ _ h)
+        mining-work h = simp (sym call ∙ whole, le-leb _ _ o, lt-leb _ _ h)
 
-        module _ (o : 512 ≤ length out) where
-          pub mining-work : length work < 16384 → mining 1 log out work ≡ Refused 3 0
-          unfolding mining
-          mining-work h = simp (ne-eqb _ _ z, le-ltb _ _ s, eq-eqb _ _ m, le-leb _ _ o, lt-leb _ _ h)
-
-          pub mining-log : 16384 ≤ length work → mining 1 log out work ≡ logSound 1 log
-          unfolding mining
-          mining-log h = simp (ne-eqb _ _ z, le-ltb _ _ s, eq-eqb _ _ m, le-leb _ _ o, le-leb _ _ h)
+        pub mining-log : 16384 ≤ length work → mining 1 log out work ≡ logSound 1 log
+        unfolding mining
+        mining-log h = simp (sym call ∙ whole, le-leb _ _ o, le-leb _ _ h)
 
   -- a refusal writes nothing
   pub refused-says : (number place : ℕ) → mining 1 log out work ≡ Refused number place → MineSays 1 log out work (Refused number place) out work

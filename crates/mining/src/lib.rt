@@ -39,20 +39,7 @@ fn mine_tree(log: &[u8], tree: &mut [u8]) -> usize
 pub fn mine(log: &[u8], out: &mut [u8], work: &mut [u8]) -> Answer
     ensures { λ r. ⌜ MineSays 1 (now (log .entry)) (now (out .entry)) (now (work .entry)) r (now (out .exit)) (now (work .exit)) ⌝ }
 {
-    let n = log.len();
-    if n == 0 {
-        return Answer::Refused {
-            number: 1,
-            place: 0,
-        };
-    }
-    if 8192 < n {
-        return Answer::Refused {
-            number: 1,
-            place: 0,
-        };
-    }
-    if n % 512 != 0 {
+    if !logs::sized(log) {
         return Answer::Refused {
             number: 1,
             place: 0,
