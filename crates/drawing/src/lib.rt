@@ -1,15 +1,16 @@
 // The graph of a view's sublog. Each pass hands a record's codes on as a part of the log.
 use codes::CodeSet;
 use graphs::Graph;
-use rules::Answer;
 use views::View;
 ghost use mathlib.Core.Path.{_≡_};
 ghost use mathlib.Core.Bool.{true};
 ghost use mathlib.Core.List.{[], _∷_};
 ghost use lib.Dec.{ltb};
-ghost use lib.ListN.{length};
+ghost use lib.ListN.{length, getD};
 ghost use Rattle.rules.specs.Words.{pick};
-ghost use Rattle.rules.specs.LogBlock.{blockEpisodes, logEpisodes};
+ghost use Rattle.rules.specs.Refusals.{Given};
+ghost use Rattle.rules.specs.LogBlock.{recordsAt, blockEpisodes, logEpisodes};
+ghost use Rattle.rules.specs.Calls.{topCode, logSound};
 ghost use Rattle.codes.specs.Bits.{has, listed};
 ghost use Rattle.graphs.specs.Edges.{meant};
 ghost use Rattle.views.specs.Sublogs.{sight, sublog, drawn};
@@ -63,19 +64,16 @@ fn nothing_new(codes: &[u8], v: View, rows: &[u32], starts: CodeSet, ends: CodeS
 
 // The graph with what one block's records add.
 fn graph_block(block: &[u8], v: View, g: Graph) -> Graph
-    requires { ⌜ length (now block) ≡ 512 ⌝ }
+    requires { ⌜ (length (now block) ≡ 512) × Given (recordsAt 1 topCode (getD (now block) 0 0) (now block) 1) ⌝ }
     ensures { λ r. ⌜ meant r (v .keep .bits) ≡ withPieces (sight v) (meant g (v .keep .bits)) (blockEpisodes 1 (now (block .entry))) ⌝ }
 {
     let mut rows = g.rows;
     let mut starts = g.starts;
     let mut ends = g.ends;
     let mut at: usize = 1;
-    let mut left = block[0];
+    let mut left = block[0] as usize;
     while 0 < left {
-        let r = records::frame(block, at, 1);
-        let Answer::Gives(next) = r else {
-            return Graph { rows, starts, ends };
-        };
+        let next = records::next_record(block, at, 1);
         let from = at + 1;
         let codes = &block[from..next];
         at = next;
@@ -92,6 +90,7 @@ fn graph_block(block: &[u8], v: View, g: Graph) -> Graph
 
 // The graph of a view's sublog.
 pub fn graph_of(log: &[u8], v: View) -> Graph
+    requires { ⌜ Given (logSound 1 (now log)) ⌝ }
     ensures { λ r. ⌜ meant r (v .keep .bits) ≡ drawn (listed 32 (v .keep .bits)) (sublog v (logEpisodes 1 (now (log .entry)))) ⌝ }
 {
     let mut g = Graph::new();

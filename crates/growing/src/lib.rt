@@ -3,14 +3,16 @@ use codes::CodeSet;
 use views::View;
 ghost use mathlib.Core.Path.{_≡_};
 ghost use Rattle.rules.specs.Mining.{mined};
+ghost use Rattle.rules.specs.Refusals.{Given};
 ghost use Rattle.rules.specs.LogBlock.{logEpisodes};
+ghost use Rattle.rules.specs.Calls.{logSound};
 ghost use Rattle.views.specs.Sublogs.{sublog};
 ghost use Rattle.bases.specs.Writing.{WroteTree};
 ghost use Rattle.growing.specs.Ready.{Ready};
 
 // Writes the tree of a view's sublog from an entry on, and answers the next entry.
 pub fn mine_node(log: &[u8], tree: &mut [u8], v: View, at: usize) -> usize
-    requires { ⌜ Ready (logEpisodes 1 (now log)) v (now tree) at ⌝ }
+    requires { ⌜ Given (logSound 1 (now log)) × Ready (logEpisodes 1 (now log)) v (now tree) at ⌝ }
     ensures { λ r. ⌜ WroteTree (mined 32 (sublog v (logEpisodes 1 (now (log .entry))))) at (now (tree .entry)) r (now (tree .exit)) ⌝ }
 {
     let plan = planning::planned(log, v);

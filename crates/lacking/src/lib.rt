@@ -1,15 +1,16 @@
 // Which parts of a cut some sub-episode of a view has no event of: the views of those parts have the empty episode.
 use codes::CodeSet;
-use rules::Answer;
 use views::View;
 ghost use mathlib.Core.Path.{_≡_};
 ghost use mathlib.Core.Bool.{_||_, _&&_};
 ghost use mathlib.Core.List.{[], _∷_};
 ghost use Prim.Native.Nat.{ℕ, _≤_, _<_};
 ghost use lib.Dec.{ltb};
-ghost use lib.ListN.{length};
+ghost use lib.ListN.{length, getD};
 ghost use Rattle.rules.specs.Trees.{Op};
-ghost use Rattle.rules.specs.LogBlock.{blockEpisodes, logEpisodes};
+ghost use Rattle.rules.specs.Refusals.{Given};
+ghost use Rattle.rules.specs.LogBlock.{recordsAt, blockEpisodes, logEpisodes};
+ghost use Rattle.rules.specs.Calls.{topCode, logSound};
 ghost use Rattle.rules.specs.TreeBlock.{kindOf};
 ghost use Rattle.codes.specs.Bits.{has};
 ghost use Rattle.views.specs.Sublogs.{sight, bareOf, partSight};
@@ -61,17 +62,14 @@ fn missed_codes(codes: &[u8], v: View, sets: &[u32], missed: u32) -> u32
 
 // The parts that a sub-episode of one block's records lacks, besides those missed before.
 fn missed_block(block: &[u8], v: View, sets: &[u32], missed: u32) -> u32
-    requires { ⌜ (length (now block) ≡ 512) × (length (now sets) ≤ 32) ⌝ }
+    requires { ⌜ (length (now block) ≡ 512) × Given (recordsAt 1 topCode (getD (now block) 0 0) (now block) 1) × (length (now sets) ≤ 32) ⌝ }
     ensures { λ r. ⌜ has r ≡ missedBy (sight v) (now (sets .entry)) (has missed) (blockEpisodes 1 (now (block .entry))) ⌝ }
 {
     let mut m = missed;
     let mut at: usize = 1;
-    let mut left = block[0];
+    let mut left = block[0] as usize;
     while 0 < left {
-        let r = records::frame(block, at, 1);
-        let Answer::Gives(next) = r else {
-            return m;
-        };
+        let next = records::next_record(block, at, 1);
         let from = at + 1;
         m = missed_codes(&block[from..next], v, sets, m);
         at = next;
@@ -92,7 +90,7 @@ fn at_first(bare: bool) -> u32
 
 // The parts that an episode of the view lacks.
 fn missed_of(log: &[u8], v: View, sets: &[u32]) -> u32
-    requires { ⌜ length (now sets) ≤ 32 ⌝ }
+    requires { ⌜ Given (logSound 1 (now log)) × (length (now sets) ≤ 32) ⌝ }
     ensures { λ r. ⌜ ((k : ℕ) → k < length (now (sets .entry)) → has r k ≡ bareOf (partAt (now (sets .entry)) k) (logEpisodes 1 (now (log .entry))) (sight v)) ⌝ }
 {
     let mut m = at_first(v.bare);
@@ -109,7 +107,7 @@ fn missed_of(log: &[u8], v: View, sets: &[u32]) -> u32
 
 // The parts under a cut whose views have the empty episode, by the kind of the cut's operator: a choice and a loop make none.
 pub fn missed_parts(log: &[u8], v: View, kind: u8, sets: &[u32]) -> u32
-    requires { ⌜ length (now sets) ≤ 32 ⌝ }
+    requires { ⌜ Given (logSound 1 (now log)) × (length (now sets) ≤ 32) ⌝ }
     ensures { λ r. ⌜ ((o : Op) → kindOf o ≡ kind → (k : ℕ) → k < length (now (sets .entry)) → has r k ≡ partSight o (partAt (now (sets .entry)) k) (logEpisodes 1 (now (log .entry))) (sight v) .bare) ⌝ }
 {
     if kind < 4 {

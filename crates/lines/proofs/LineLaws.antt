@@ -8,6 +8,7 @@ use lib.ListN.{length, getD, length-append}
 use Rattle.rules.specs.Words.{part}
 use Rattle.rules.specs.Trees.{Tree, In}
 use Rattle.rules.specs.TreeBlock.{treeBlock}
+use Rattle.rules.specs.Refusals.{Given}
 use Rattle.rules.specs.LogBlock.{eventsAt, frameAt, episodesAt, blockEpisodes, episodesFrom, logEpisodes}
 use Rattle.rules.specs.Calls.{lent, checking, judging, Judged, VerdictOf, JudgeSays}
 use Rattle.rules.specs.Listing.{verdictLine, verdictLines}
@@ -16,12 +17,13 @@ use Rattle.rules.specs.declared.Answer.{Answer}
 use Rattle.rules.specs.declared.Answer.the-variants.{Gives}
 use Rattle.rules.specs.declared.Verdict.{Verdict}
 use Rattle.rules.specs.declared.Verdict.the-variants.{Fits, Misfit, Refused as Dismissed}
+use Rattle.rules.proofs.AnswerLaws.{given-is}
 use Rattle.seals.proofs.PartLaws.{getD-part}
 use Rattle.episodes.proofs.EpisodeLaws.{episodes-end, episodes-next, events-codes, blocks-episodes-end, blocks-episodes-next}
 use Rattle.writing.specs.Writing.{Wrote}
 use Rattle.writing.proofs.WroteLaws.{wrote-nothing, wrote-then, wrote-most}
-use Rattle.lines.specs.Lines.{Given, fitting, Lines, LogLines}
-use Rattle.lines.proofs.GivenLaws.{given-is, judging-given}
+use Rattle.lines.specs.Lines.{fitting, Lines, LogLines}
+use Rattle.lines.proofs.GivenLaws.{judging-given}
 
 -- the lines of more tests come after
 verdicts-append : (n : ℕ) (fs gs : List Bool) → verdictLines n (fs ++ gs) ≡ verdictLines n fs ++ verdictLines (n + length fs) gs
@@ -94,14 +96,14 @@ verdict-said {b} {e} {work} {work′} {old} {new} {v} {f} {n} {at} {r} g l room 
 
 module _ (block : List ℕ) (place left : ℕ) {b old mid : List ℕ} {whole : List (List ℕ)} {first number at k : ℕ} where
   -- one record more
-  pub record-lines : {new : List ℕ} {r : ℕ} (a : Answer) (next : ℕ) → length block ≡ 512 → a ≡ frameAt 1 block place → a ≡ Gives next → 0 < left
+  pub record-lines : {new : List ℕ} {r : ℕ} (next : ℕ) → length block ≡ 512 → Gives next ≡ frameAt 1 block place → 0 < left
       → at + 13 * (number + 1) ≤ length old + 13 * first
       → Lines b whole (episodesAt 1 left block place) first number old at mid k → Lines b (eventsAt block place next ∷ []) [] number (number + 1) mid k new r
       → Lines b whole (episodesAt 1 (left - 1) block next) first (number + 1) old at new r
-  record-lines a next long call e h room v w =
+  record-lines next long call h room v w =
       let met : episodesAt 1 left block place ≡ eventsAt block place next ∷ episodesAt 1 (left - 1) block next =
-      episodes-next 1 block place left a call h next e
-      ∙ ap (λ (s : List ℕ). s ∷ episodesAt 1 (left - 1) block next) (events-codes block place next a long call e) in
+      episodes-next 1 block place left next call h
+      ∙ ap (λ (s : List ℕ). s ∷ episodesAt 1 (left - 1) block next) (events-codes block place next long call) in
       lines-then room (subst (λ (es : List (List ℕ)). Lines b whole es first number old at mid k) met v) w
 
   pub records-all : (n : ℕ) → left ≤ 0 → number ≡ n

@@ -9,16 +9,9 @@ use Rattle.rules.specs.TreeBlock.{treeBlock}
 use Rattle.rules.specs.LogBlock.{logEpisodes}
 use Rattle.rules.specs.Listing.{verdictLines}
 use Rattle.rules.specs.Printed.{Told}
-use Rattle.rules.specs.declared.Answer.{Answer}
-use Rattle.rules.specs.declared.Answer.the-variants.{Gives, Refused}
 use Rattle.rules.specs.declared.Verdict.{Verdict}
 use Rattle.rules.specs.declared.Verdict.the-variants.{Fits, Misfit, Refused as Dismissed}
 use Rattle.writing.specs.Writing.{Wrote}
-
--- no refusal
-abbrev pub Given : Answer → Type 0
-Given (Gives n) = Unit {0}
-Given (Refused number place) = ⊥
 
 -- what is printed of a verdict; an episode of a log that was read is not refused
 abbrev pub fitting : Verdict → Bool

@@ -1,13 +1,13 @@
 // The lines of verdicts, one for each episode of a log.
-use rules::Answer;
 use rules::Verdict;
 ghost use mathlib.Core.Path.{_≡_};
 ghost use mathlib.Core.List.{[], _∷_};
 ghost use Prim.Native.Nat.{_+_, _≤_};
 ghost use lib.ListN.{length, getD};
+ghost use Rattle.rules.specs.Refusals.{Given};
 ghost use Rattle.rules.specs.LogBlock.{recordsAt, blockEpisodes};
 ghost use Rattle.rules.specs.Calls.{topCode, lent, logSound, checking};
-ghost use Rattle.lines.specs.Lines.{Given, fitting, Lines, LogLines};
+ghost use Rattle.lines.specs.Lines.{fitting, Lines, LogLines};
 
 // What is printed of a verdict.
 fn fits(v: Verdict) -> bool
@@ -53,10 +53,7 @@ fn block_lines(
     let mut number = first;
     let mut next = at;
     while 0 < left {
-        let r = records::frame(block, place, 1);
-        let Answer::Gives(after) = r else {
-            return next;
-        };
+        let after = records::next_record(block, place, 1);
         let from = place + 1;
         next = verdict_line(tree, &block[from..after], number, work, text, next);
         place = after;

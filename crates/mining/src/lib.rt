@@ -6,10 +6,10 @@ ghost use Prim.Native.Nat.{_≤_};
 ghost use lib.ListN.{length, drop};
 ghost use Rattle.rules.specs.Words.{zeros};
 ghost use Rattle.rules.specs.Trees.{size};
+ghost use Rattle.rules.specs.Refusals.{Given};
 ghost use Rattle.rules.specs.LogBlock.{logEpisodes};
 ghost use Rattle.rules.specs.TreeBlock.{treeBlock};
-ghost use Rattle.rules.specs.Calls.{treeOf, MineSays};
-ghost use Rattle.mining.specs.Sound.{SoundLog};
+ghost use Rattle.rules.specs.Calls.{logSound, treeOf, MineSays};
 
 // The first n bytes become zero.
 fn clear(bytes: &mut [u8], n: usize)
@@ -25,7 +25,7 @@ fn clear(bytes: &mut [u8], n: usize)
 
 // Writes the block of a sound log's tree, and answers the number of nodes.
 fn mine_tree(log: &[u8], tree: &mut [u8]) -> usize
-    requires { ⌜ (length (now tree) ≡ 512) × SoundLog (now log) ⌝ }
+    requires { ⌜ (length (now tree) ≡ 512) × Given (logSound 1 (now log)) ⌝ }
     ensures { λ r. ⌜ (r ≡ size (treeOf 1 (now (log .entry)))) × (now (tree .exit) ≡ treeBlock (treeOf 1 (now (log .entry)))) ⌝ }
 {
     clear(tree, 512);

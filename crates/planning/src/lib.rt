@@ -6,7 +6,9 @@ use views::View;
 ghost use mathlib.Core.Path.{_≡_};
 ghost use Prim.Native.Nat.{_≤_, _<_};
 ghost use Rattle.rules.specs.Mining.{headOf};
+ghost use Rattle.rules.specs.Refusals.{Given};
 ghost use Rattle.rules.specs.LogBlock.{logEpisodes};
+ghost use Rattle.rules.specs.Calls.{logSound};
 ghost use Rattle.codes.specs.Bits.{listed};
 ghost use Rattle.graphs.specs.Edges.{edgeOf};
 ghost use Rattle.planning.specs.Plans.{lone, CutPlan, Planned};
@@ -58,7 +60,7 @@ fn uncut(kind: u8) -> Plan
 
 // A cut as a plan: the parts that a sub-episode lacks are looked for.
 fn cut_plan(log: &[u8], v: View, kind: u8, parts: Parts) -> Plan
-    requires { ⌜ parts .n ≤ 32 ⌝ }
+    requires { ⌜ Given (logSound 1 (now log)) × (parts .n ≤ 32) ⌝ }
     ensures { λ r. ⌜ CutPlan (logEpisodes 1 (now (log .entry))) v kind parts r ⌝ }
 {
     let n = parts.n;
@@ -74,6 +76,7 @@ fn cut_plan(log: &[u8], v: View, kind: u8, parts: Parts) -> Plan
 
 // What is made of a view's sublog.
 pub fn planned(log: &[u8], v: View) -> Plan
+    requires { ⌜ Given (logSound 1 (now log)) ⌝ }
     ensures { λ r. ⌜ Planned (logEpisodes 1 (now (log .entry))) v r ⌝ }
 {
     let keep = v.keep;

@@ -1,15 +1,16 @@
 // The view of the whole log: the codes that occur, and whether the empty episode does.
 use codes::CodeSet;
-use rules::Answer;
 use views::View;
 ghost use mathlib.Core.Path.{_≡_};
 ghost use mathlib.Core.Bool.{_||_, _&&_};
 ghost use mathlib.Core.List.{[], _∷_};
 ghost use Prim.Native.Nat.{ℕ};
 ghost use lib.Dec.{ltb};
-ghost use lib.ListN.{length};
+ghost use lib.ListN.{length, getD};
 ghost use Rattle.rules.specs.Words.{mem};
-ghost use Rattle.rules.specs.LogBlock.{blockEpisodes, logEpisodes};
+ghost use Rattle.rules.specs.Refusals.{Given};
+ghost use Rattle.rules.specs.LogBlock.{recordsAt, blockEpisodes, logEpisodes};
+ghost use Rattle.rules.specs.Calls.{topCode, logSound};
 ghost use Rattle.codes.specs.Bits.{has};
 ghost use Rattle.views.specs.Sublogs.{sight, rootSight};
 ghost use Rattle.roots.specs.Widened.{widened};
@@ -53,17 +54,14 @@ fn root_codes(codes: &[u8], v: View) -> View
 
 // The root's view with what one block's records add.
 fn root_block(block: &[u8], v: View) -> View
-    requires { ⌜ length (now block) ≡ 512 ⌝ }
+    requires { ⌜ (length (now block) ≡ 512) × Given (recordsAt 1 topCode (getD (now block) 0 0) (now block) 1) ⌝ }
     ensures { λ r. ⌜ sight r ≡ widened (sight v) (blockEpisodes 1 (now (block .entry))) ⌝ }
 {
     let mut w = v;
     let mut at: usize = 1;
-    let mut left = block[0];
+    let mut left = block[0] as usize;
     while 0 < left {
-        let r = records::frame(block, at, 1);
-        let Answer::Gives(next) = r else {
-            return w;
-        };
+        let next = records::next_record(block, at, 1);
         let from = at + 1;
         w = root_codes(&block[from..next], w);
         at = next;
@@ -72,8 +70,9 @@ fn root_block(block: &[u8], v: View) -> View
     w
 }
 
-// The view of the whole log.
+// The view of a whole sound log.
 pub fn root_of(log: &[u8]) -> View
+    requires { ⌜ Given (logSound 1 (now log)) ⌝ }
     ensures { λ r. ⌜ sight r ≡ rootSight 32 (logEpisodes 1 (now (log .entry))) ⌝ }
 {
     let mut v = View {

@@ -1,10 +1,10 @@
 -- Laws of answers: how an answer that gives comes about, and what a call returns where an earlier one was refused.
-use mathlib.Core.Path.{_≡_, refl, sym, ap, _∙_}
+use mathlib.Core.Path.{_≡_, refl, sym, ap, subst, _∙_}
 use mathlib.Core.Bool.{Bool, true, false}
 use Prim.Native.Nat.{ℕ}
 use native.Mathlib.Omega.{arith}
 use Rattle.rules.specs.Words.{pick}
-use Rattle.rules.specs.Refusals.{demand, andThen}
+use Rattle.rules.specs.Refusals.{Given, demand, andThen}
 use Rattle.rules.specs.declared.Answer.{Answer}
 use Rattle.rules.specs.declared.Answer.the-variants.{Gives, Refused}
 
@@ -18,6 +18,13 @@ gives-same m n e = cc
 
 pub refused-gives : {A : Type 0} (number place n : ℕ) → Refused number place ≡ Gives n → A
 refused-gives number place n e = let q : _≡_ {A = ℕ} 0 1 = cc in absurd (omega arith)
+
+pub given-is : (a : Answer) → Given a → (n : ℕ) × (a ≡ Gives n)
+given-is (Gives n) g = (n, refl)
+given-is (Refused number place) g = absurd g
+
+pub is-given : (a r : Answer) (n : ℕ) → r ≡ a → r ≡ Gives n → Given a
+is-given a r n call e = subst Given (sym e ∙ call) tt
 
 -- ---- an answer that gives, taken apart
 

@@ -5,6 +5,11 @@ use Rattle.rules.specs.Words.{pick}
 use Rattle.rules.specs.declared.Answer.{Answer}
 use Rattle.rules.specs.declared.Answer.the-variants.{Gives, Refused}
 
+-- no refusal
+abbrev pub Given : Answer → Type 0
+Given (Gives n) = Unit {0}
+Given (Refused number place) = ⊥
+
 -- what is due where the test holds, else the refusal
 abbrev pub demand : Bool → ℕ → ℕ → Answer → Answer
 demand ok number place rest = pick ok rest (Refused number place)

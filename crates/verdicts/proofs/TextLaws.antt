@@ -11,19 +11,19 @@ use borrow.Author.Tests.{ltb-false}
 use Rattle.rules.specs.Words.{pick}
 use Rattle.rules.specs.Trees.{Tree, In}
 use Rattle.rules.specs.TreeBlock.{treeBlock}
+use Rattle.rules.specs.Refusals.{Given}
 use Rattle.rules.specs.LogBlock.{logSized, logEpisodes}
 use Rattle.rules.specs.Calls.{logSound, logReading, checking}
 use Rattle.rules.specs.Listing.{refusalLine, verdictLines}
 use Rattle.rules.specs.Printed.{judgeReading, Tells, Told, VerdictsOf, JudgedBy, JudgedText}
 use Rattle.rules.specs.declared.Answer.{Answer}
 use Rattle.rules.specs.declared.Answer.the-variants.{Gives, Refused}
-use Rattle.rules.proofs.AnswerLaws.{demand-given, then-given, then-refused, then-gives}
+use Rattle.rules.proofs.AnswerLaws.{is-given, demand-given, then-given, then-refused, then-gives}
 use Rattle.rules.proofs.Overlay.{take-overlaid, drop-overlaid}
 use Rattle.trees.proofs.Accepted.{accepted-tree}
 use Rattle.writing.specs.Writing.{Wrote}
 use Rattle.writing.proofs.WroteLaws.{wrote-nothing, wrote-most}
-use Rattle.lines.specs.Lines.{Given, LogLines}
-use Rattle.lines.proofs.GivenLaws.{is-given}
+use Rattle.lines.specs.Lines.{LogLines}
 use Rattle.verdicts.specs.Texts.{refusalText, JudgedInto}
 
 -- ---- a refusal's line

@@ -4,14 +4,13 @@ use mathlib.Core.List.{List, [], _∷_, _++_, append-nil}
 use mathlib.Core.Bool.{Bool, true, false, _||_}
 use Prim.Native.Nat.{ℕ, _+_, _-_, _<_, _≤_}
 use lib.ListN.{length}
-use Rattle.rules.specs.declared.Answer.{Answer}
-use Rattle.rules.specs.declared.Answer.the-variants.{Gives, Refused}
+use Rattle.rules.specs.declared.Answer.the-variants.{Gives}
 use Rattle.rules.specs.Words.{any, part, each, flat}
 use Rattle.rules.specs.Mining.{Episode, Log, project}
 use Rattle.rules.specs.LogBlock.{frameAt, eventsAt, episodesAt, blockEpisodes, episodesFrom}
 use Rattle.rules.proofs.BoolLaws.{or-assoc}
 use Rattle.rules.proofs.ListLaws.{each-append, flat-append}
-use Rattle.episodes.proofs.EpisodeLaws.{episodes-end, episodes-stop, episodes-next, events-codes, blocks-episodes-end, blocks-episodes-next}
+use Rattle.episodes.proofs.EpisodeLaws.{episodes-end, episodes-next, events-codes, blocks-episodes-end, blocks-episodes-next}
 use Rattle.views.specs.Sublogs.{Sight, emptyIf, pieces, piecesOf, shown, lacks, bareOf}
 
 -- `act` is what a log adds to what was added up before
@@ -20,16 +19,12 @@ module _ {S : Type 0} (act : S → Log → S) (nil : (s : S) → act s [] ≡ s)
     pub records-end : left ≤ 0 → s ≡ all
     records-end h = sym (inv ∙ ap (act s) (episodes-end 1 b at left h) ∙ nil s)
 
-    module _ (r : Answer) (call : r ≡ frameAt 1 b at) (h : 0 < left) where
-      pub records-stop : (x y : ℕ) → r ≡ Refused x y → s ≡ all
-      records-stop x y e = sym (inv ∙ ap (act s) (episodes-stop 1 b at left r call h x y e) ∙ nil s)
-
-      pub records-next : (next : ℕ) → length b ≡ 512 → r ≡ Gives next → (u : S) → u ≡ act s (eventsAt b at next ∷ []) → all ≡ act u (episodesAt 1 (left - 1) b next)
-      records-next next l e u f =
-          inv ∙ ap (act s) (episodes-next 1 b at left r call h next e)
-          ∙ ap (λ (t : Episode). act s (t ∷ episodesAt 1 (left - 1) b next)) (events-codes b at next r l call e)
-          ∙ sym (app s (eventsAt b at next ∷ []) (episodesAt 1 (left - 1) b next))
-          ∙ ap (λ (z : S). act z (episodesAt 1 (left - 1) b next)) (sym f)
+    pub records-next : (next : ℕ) → Gives next ≡ frameAt 1 b at → 0 < left → length b ≡ 512 → (u : S) → u ≡ act s (eventsAt b at next ∷ []) → all ≡ act u (episodesAt 1 (left - 1) b next)
+    records-next next call h l u f =
+        inv ∙ ap (act s) (episodes-next 1 b at left next call h)
+        ∙ ap (λ (t : Episode). act s (t ∷ episodesAt 1 (left - 1) b next)) (events-codes b at next l call)
+        ∙ sym (app s (eventsAt b at next ∷ []) (episodesAt 1 (left - 1) b next))
+        ∙ ap (λ (z : S). act z (episodesAt 1 (left - 1) b next)) (sym f)
 
   module _ (log : List ℕ) (base left : ℕ) (s all : S) (inv : all ≡ act s (episodesFrom 1 left log base)) where
     pub blocks-end : left ≤ 0 → s ≡ all

@@ -53,7 +53,7 @@ mine-node-base-requires : (t : ℕ) → mine-node-lts.Need-base-requires (env t)
 mine-node-base-requires t c κs =
     let a = c .before .before .before .before .before .before .args in
     let l = logEpisodes 1 (a .log .now) in
-    let ready = c .before .before .before .before .before .before .pre .1 in
+    let ready = c .before .before .before .before .before .before .pre .1 .1 in
     let plan = c .before .before .before .planned in
     let e = node-base l (a .v) (ready .tight) (plan .result .kind) (plan .ensures .base (ready .tight) (c .before .before .if1 .taken)) in
     (ready .long, omega (arith, ap size e, ready .room))
@@ -65,7 +65,7 @@ mine-node-returns : (t : ℕ) → mine-node-lts.Need-returns (env t) (mine-node-
 mine-node-returns t c =
     let a = c .before .before .before .before .before .before .before .before .before .args in
     let l = logEpisodes 1 (a .log .now) in
-    let ready = c .before .before .before .before .before .before .before .before .before .pre .1 in
+    let ready = c .before .before .before .before .before .before .before .before .before .pre .1 .1 in
     let plan = c .before .before .before .before .before .before .planned in
     let e = node-base l (a .v) (ready .tight) (plan .result .kind) (plan .ensures .base (ready .tight) (c .before .before .before .before .before .if1 .taken)) in
     let wrote = c .before .before .base in
@@ -75,7 +75,7 @@ mine-node-add-next : (t : ℕ) → mine-node-lts.Need-add-next (env t) (mine-nod
 mine-node-add-next t c =
     let a = c .before .before .before .before .args in
     let l = logEpisodes 1 (a .log .now) in
-    let ready = c .before .before .before .before .pre .1 in
+    let ready = c .before .before .before .before .pre .1 .1 in
     let plan = c .before .planned in
     omega (arith, ready .room)
 
@@ -83,7 +83,7 @@ mine-node-loop-holds : (t : ℕ) → mine-node-lts.Need-loop-holds (env t) (mine
 mine-node-loop-holds t c =
     let a = c .before .before .before .before .args in
     let l = logEpisodes 1 (a .log .now) in
-    let ready = c .before .before .before .before .pre .1 in
+    let ready = c .before .before .before .before .pre .1 .1 in
     let plan = c .before .planned in
     ((λ o e h. node-start l (a .v) (a .tree .now) (a .at) ready (plan .result .n) (plan .result .sets) (plan .ensures .room) o h), ready .long, omega arith)
 
@@ -91,7 +91,7 @@ mine-node-mul-part-of : (t : ℕ) → mine-node-lts.Need-mul-part-of (env t) (mi
 mine-node-mul-part-of t c =
     let a = c .before .before .before .before .before .before .args in
     let l = logEpisodes 1 (a .log .now) in
-    let ready = c .before .before .before .before .before .before .pre .1 in
+    let ready = c .before .before .before .before .before .before .pre .1 .1 in
     let plan = c .before .before .before .planned in
     omega (arith, plan .ensures .few)
 
@@ -99,7 +99,7 @@ mine-node-element-copy-out-part-of : (t : ℕ) → mine-node-lts.Need-element-co
 mine-node-element-copy-out-part-of t c =
     let a = c .before .before .before .before .before .before .args in
     let l = logEpisodes 1 (a .log .now) in
-    let ready = c .before .before .before .before .before .before .pre .1 in
+    let ready = c .before .before .before .before .before .before .pre .1 .1 in
     let plan = c .before .before .before .planned in
     omega (arith, plan .ensures .few)
 
@@ -120,7 +120,7 @@ mine-node-mine-node-requires : (t : ℕ) → mine-node-lts.Need-mine-node-requir
 mine-node-mine-node-requires t c κs =
     let a = c .before .before .before .before .before .before .before .before .before .args in
     let l = logEpisodes 1 (a .log .now) in
-    let ready = c .before .before .before .before .before .before .before .before .before .pre .1 in
+    let ready = c .before .before .before .before .before .before .before .before .before .pre .1 .1 in
     let plan = c .before .before .before .before .before .before .planned in
     let n = plan .result .n in
     let sets = plan .result .sets in
@@ -131,14 +131,14 @@ mine-node-mine-node-requires t c κs =
     let lt = c .before .before .before .loop-test .taken in
     let sees = w .ensures (made .0) l (made .1) (missed-bit _ _ _ (plan .ensures .told (made .0) (made .1) (at .i) lt)) in (
       omega (arith, c .before .before .before .before .before .before .before .before .before .pre .0, child-fewer l (a .v) (a .tree .now) (a .at) ready n sets few (made .0) (made .2) (at .i) lt (w .result) sees),
-      child-ready l (a .v) (a .tree .now) (a .at) ready n sets few (made .0) (made .2) (at .i) lt (w .result) sees (at .next) (at .tree) (at .inv .0 (made .0) (made .1) (made .2)) (at .inv .1),
+      (c .before .before .before .before .before .before .before .before .before .pre .1 .0, child-ready l (a .v) (a .tree .now) (a .at) ready n sets few (made .0) (made .2) (at .i) lt (w .result) sees (at .next) (at .tree) (at .inv .0 (made .0) (made .1) (made .2)) (at .inv .1)),
     )
 
 mine-node-add-i : (t : ℕ) → mine-node-lts.Need-add-i (env t) (mine-node-at t) mine-node.Post mine-node-Inv-loop mine-node-μ-loop
 mine-node-add-i t c =
     let a = c .before .before .before .before .before .before .before .before .before .before .before .before .args in
     let l = logEpisodes 1 (a .log .now) in
-    let ready = c .before .before .before .before .before .before .before .before .before .before .before .before .pre .1 in
+    let ready = c .before .before .before .before .before .before .before .before .before .before .before .before .pre .1 .1 in
     let plan = c .before .before .before .before .before .before .before .before .before .planned in
     omega (arith, plan .ensures .few)
 
@@ -149,7 +149,7 @@ mine-node-loop-again : (t : ℕ) → mine-node-lts.Need-loop-again (env t) (mine
 mine-node-loop-again t c =
     let a = c .before .before .before .before .before .before .before .before .before .before .before .before .args in
     let l = logEpisodes 1 (a .log .now) in
-    let ready = c .before .before .before .before .before .before .before .before .before .before .before .before .pre .1 in
+    let ready = c .before .before .before .before .before .before .before .before .before .before .before .before .pre .1 .1 in
     let plan = c .before .before .before .before .before .before .before .before .before .planned in
     let n = plan .result .n in
     let sets = plan .result .sets in
@@ -172,7 +172,7 @@ mine-node-byte-requires : (t : ℕ) → mine-node-lts.Need-byte-requires (env t)
 mine-node-byte-requires t c κs =
     let a = c .before .before .before .before .before .before .before .args in
     let l = logEpisodes 1 (a .log .now) in
-    let ready = c .before .before .before .before .before .before .before .pre .1 in
+    let ready = c .before .before .before .before .before .before .before .pre .1 .1 in
     let plan = c .before .before .before .before .planned in
     omega (arith, plan .ensures .few)
 
@@ -180,7 +180,7 @@ mine-node-sub-byte : (t : ℕ) → mine-node-lts.Need-sub-byte (env t) (mine-nod
 mine-node-sub-byte t c =
     let a = c .before .before .before .before .before .before .before .before .args in
     let l = logEpisodes 1 (a .log .now) in
-    let ready = c .before .before .before .before .before .before .before .before .pre .1 in
+    let ready = c .before .before .before .before .before .before .before .before .pre .1 .1 in
     let plan = c .before .before .before .before .before .planned in
     let n = plan .result .n in
     let sets = plan .result .sets in
@@ -193,7 +193,7 @@ mine-node-byte-requires-2 : (t : ℕ) → mine-node-lts.Need-byte-requires-2 (en
 mine-node-byte-requires-2 t c κs =
     let a = c .before .before .before .before .before .before .before .before .args in
     let l = logEpisodes 1 (a .log .now) in
-    let ready = c .before .before .before .before .before .before .before .before .pre .1 in
+    let ready = c .before .before .before .before .before .before .before .before .pre .1 .1 in
     let plan = c .before .before .before .before .before .planned in
     let n = plan .result .n in
     let sets = plan .result .sets in
@@ -206,7 +206,7 @@ mine-node-put-requires : (t : ℕ) → mine-node-lts.Need-put-requires (env t) (
 mine-node-put-requires t c κs =
     let a = c .before .before .before .before .before .before .before .before .before .args in
     let l = logEpisodes 1 (a .log .now) in
-    let ready = c .before .before .before .before .before .before .before .before .before .pre .1 in
+    let ready = c .before .before .before .before .before .before .before .before .before .pre .1 .1 in
     let plan = c .before .before .before .before .before .before .planned in
     let n = plan .result .n in
     let sets = plan .result .sets in
@@ -224,7 +224,7 @@ mine-node-returns-2 : (t : ℕ) → mine-node-lts.Need-returns-2 (env t) (mine-n
 mine-node-returns-2 t c =
     let a = c .before .before .before .before .before .before .before .before .before .before .before .before .args in
     let l = logEpisodes 1 (a .log .now) in
-    let ready = c .before .before .before .before .before .before .before .before .before .before .before .before .pre .1 in
+    let ready = c .before .before .before .before .before .before .before .before .before .before .before .before .pre .1 .1 in
     let plan = c .before .before .before .before .before .before .before .before .before .planned in
     let n = plan .result .n in
     let sets = plan .result .sets in

@@ -1,18 +1,21 @@
 use mathlib.Core.Path.{_≡_, refl}
 use native.Mathlib.Omega.{arith}
 use borrow.Author.Needs.{needs}
-use Rattle.rules.specs.LogBlock.{episodesAt, blockEpisodes}
+use Rattle.rules.specs.Refusals.{Given}
+use Rattle.rules.specs.LogBlock.{recordsAt, episodesAt, blockEpisodes}
 use Rattle.codes.specs.Bits.{has}
-use Rattle.records.proofs.RecordLaws.{frame-fits}
+use Rattle.records.proofs.RecordLaws.{next-fits}
+use Rattle.episodes.proofs.EpisodeLaws.{met-frame, met-next}
 use Rattle.views.specs.Sublogs.{sight}
-use Rattle.views.proofs.PassLaws.{records-end, records-stop, records-next}
+use Rattle.views.proofs.PassLaws.{records-end, records-next}
 use Rattle.lacking.specs.Missed.{missedBy}
 use Rattle.lacking.proofs.MissedLaws.{missed-nil, missed-append}
 use Rattle.lacking.proofs.missed_block.Statement.{statement}
 use Rattle.lacking.proofs.missed_block.Tie as tie
 
 abbrev Inv-loop : tie.InvT-loop
-Inv-loop block v sets missed m₀ at₀ left₀ m at left = missedBy (sight v) sets (has m₀) (blockEpisodes 1 block) ≡ missedBy (sight v) sets (has m) (episodesAt 1 left block at)
+Inv-loop block v sets missed m₀ at₀ left₀ m at left =
+    Given (recordsAt 1 31 left block at) × (missedBy (sight v) sets (has m₀) (blockEpisodes 1 block) ≡ missedBy (sight v) sets (has m) (episodesAt 1 left block at))
 
 abbrev μ-loop : tie.MeasureT-loop
 μ-loop block v sets missed m₀ at₀ left₀ m at left = left
@@ -20,35 +23,26 @@ abbrev μ-loop : tie.MeasureT-loop
 shared-slice-read-left : tie.Need-shared-slice-read-left Inv-loop μ-loop
 shared-slice-read-left c = search needs
 
+cast-left : tie.Need-cast-left Inv-loop μ-loop
+cast-left c = omega (arith, c .shared-slice-known3 .given 0)
+
 loop-holds : tie.Need-loop-holds Inv-loop μ-loop
-loop-holds c = refl
+loop-holds c = (search needs, refl)
 
-frame-requires : tie.Need-frame-requires Inv-loop μ-loop
-frame-requires c κs = search needs
-
-enum-known-r : tie.Need-enum-known-r Inv-loop μ-loop
-enum-known-r c = search needs
-
-enum-told : tie.Need-enum-told Inv-loop μ-loop
-enum-told c = search needs
-
-returns : tie.Need-returns Inv-loop μ-loop
-returns c =
-    let a = c .before .before .before .before .before .before .before .before .args in
-    let s = missedBy (sight (a .v)) (a .sets .now) in
-    search (records-stop s (missed-nil (sight (a .v)) (a .sets .now)) (missed-append (sight (a .v)) (a .sets .now))) depth 9
+next-record-requires : tie.Need-next-record-requires Inv-loop μ-loop
+next-record-requires c κs = (search needs, omega arith, search met-frame depth 7)
 
 add-from : tie.Need-add-from Inv-loop μ-loop
-add-from c = omega (arith, frame-fits 1 _ _ _ _ (c .before .before .before .frame .ensures) (c .before .r .given .1))
+add-from c = omega (arith, next-fits 1 _ _ _ (c .next-record .ensures))
 
 sub-missed-codes : tie.Need-sub-missed-codes Inv-loop μ-loop
-sub-missed-codes c = omega (arith, frame-fits 1 _ _ _ _ (c .before .before .before .frame .ensures) (c .before .r .given .1))
+sub-missed-codes c = omega (arith, next-fits 1 _ _ _ (c .next-record .ensures))
 
 part-missed-codes-start : tie.Need-part-missed-codes-start Inv-loop μ-loop
-part-missed-codes-start c = omega (arith, frame-fits 1 _ _ _ _ (c .before .before .before .frame .ensures) (c .before .r .given .1))
+part-missed-codes-start c = omega (arith, next-fits 1 _ _ _ (c .next-record .ensures))
 
 part-missed-codes-end : tie.Need-part-missed-codes-end Inv-loop μ-loop
-part-missed-codes-end c = omega (arith, frame-fits 1 _ _ _ _ (c .before .before .before .frame .ensures) (c .before .r .given .1))
+part-missed-codes-end c = omega (arith, next-fits 1 _ _ _ (c .next-record .ensures))
 
 missed-codes-requires : tie.Need-missed-codes-requires Inv-loop μ-loop
 missed-codes-requires c κs = search needs
@@ -61,12 +55,12 @@ loop-less c = search needs
 
 loop-again : tie.Need-loop-again Inv-loop μ-loop
 loop-again c =
-    let a = c .before .before .before .before .before .before .before .before .before .before .before .args in
+    let a = c .before .before .before .before .before .before .before .before .args in
     let s = missedBy (sight (a .v)) (a .sets .now) in
-    search (records-next s (missed-nil (sight (a .v)) (a .sets .now)) (missed-append (sight (a .v)) (a .sets .now))) depth 9
+    (search met-next depth 7, search (records-next s (missed-nil (sight (a .v)) (a .sets .now)) (missed-append (sight (a .v)) (a .sets .now))) depth 9)
 
-returns-2 : tie.Need-returns-2 Inv-loop μ-loop
-returns-2 c =
+returns : tie.Need-returns Inv-loop μ-loop
+returns c =
     let a = c .before .before .before .before .before .args in
     let s = missedBy (sight (a .v)) (a .sets .now) in
     search (records-end s (missed-nil (sight (a .v)) (a .sets .now)) (missed-append (sight (a .v)) (a .sets .now))) depth 9
@@ -78,11 +72,9 @@ missed-block-spec =
     Inv-loop
     μ-loop
     shared-slice-read-left
+    cast-left
     loop-holds
-    frame-requires
-    enum-known-r
-    enum-told
-    returns
+    next-record-requires
     add-from
     sub-missed-codes
     part-missed-codes-start
@@ -91,4 +83,4 @@ missed-block-spec =
     sub-left
     loop-less
     loop-again
-    returns-2)
+    returns)

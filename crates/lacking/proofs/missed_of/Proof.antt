@@ -3,8 +3,10 @@ use Prim.Native.Nat.{_+_, _*_, _≤_}
 use native.Mathlib.Omega.{arith}
 use lib.ListN.{length}
 use borrow.Author.Needs.{needs}
-use Rattle.rules.specs.LogBlock.{logEpisodes, episodesFrom}
+use Rattle.rules.specs.Refusals.{Given}
+use Rattle.rules.specs.LogBlock.{blocksAt, logEpisodes, episodesFrom}
 use Rattle.codes.specs.Bits.{has}
+use Rattle.episodes.proofs.EpisodeLaws.{log-sound, block-sound, blocks-sound}
 use Rattle.views.specs.Sublogs.{sight}
 use Rattle.views.proofs.PassLaws.{blocks-end, blocks-next}
 use Rattle.lacking.specs.Missed.{missedBy}
@@ -14,7 +16,7 @@ use Rattle.lacking.proofs.missed_of.Tie as tie
 
 abbrev Inv-loop : tie.InvT-loop
 Inv-loop log v sets m₀ base₀ left₀ m base left =
-    (missedBy (sight v) sets (has m₀) (logEpisodes 1 log) ≡ missedBy (sight v) sets (has m) (episodesFrom 1 left log base)) × (base + 512 * left ≤ length log)
+    Given (blocksAt 1 31 left log base) × (missedBy (sight v) sets (has m₀) (logEpisodes 1 log) ≡ missedBy (sight v) sets (has m) (episodesFrom 1 left log base)) × (base + 512 * left ≤ length log)
 
 abbrev μ-loop : tie.MeasureT-loop
 μ-loop log v sets m₀ base₀ left₀ m base left = left
@@ -23,7 +25,7 @@ at-first-requires : tie.Need-at-first-requires Inv-loop μ-loop
 at-first-requires c κs = search needs
 
 loop-holds : tie.Need-loop-holds Inv-loop μ-loop
-loop-holds c = (unfold logEpisodes in refl, omega arith)
+loop-holds c = (search log-sound, unfold logEpisodes in refl, omega arith)
 
 add-end : tie.Need-add-end Inv-loop μ-loop
 add-end c = search needs
@@ -38,7 +40,7 @@ part-missed-block-end : tie.Need-part-missed-block-end Inv-loop μ-loop
 part-missed-block-end c = search needs
 
 missed-block-requires : tie.Need-missed-block-requires Inv-loop μ-loop
-missed-block-requires c κs = search needs
+missed-block-requires c κs = (search needs, search block-sound depth 7, search needs)
 
 sub-left : tie.Need-sub-left Inv-loop μ-loop
 sub-left c = search needs
@@ -49,7 +51,7 @@ loop-less c = search needs
 loop-again : tie.Need-loop-again Inv-loop μ-loop
 loop-again c =
     let a = c .before .before .before .before .before .before .before .args in
-    (search (blocks-next (missedBy (sight (a .v)) (a .sets .now)) (missed-nil (sight (a .v)) (a .sets .now)) (missed-append (sight (a .v)) (a .sets .now))) depth 9, omega arith)
+    (search blocks-sound depth 7, search (blocks-next (missedBy (sight (a .v)) (a .sets .now)) (missed-nil (sight (a .v)) (a .sets .now)) (missed-append (sight (a .v)) (a .sets .now))) depth 9, omega arith)
 
 returns : tie.Need-returns Inv-loop μ-loop
 returns c =
@@ -57,7 +59,7 @@ returns c =
     let l = c .before .loop in
     let first = c .before .before .at-first in
     missed-all (sight (a .v)) (a .sets .now) (first .result) (logEpisodes 1 (a .log .now)) (search needs) (first .ensures) (l .m)
-    (blocks-end (missedBy (sight (a .v)) (a .sets .now)) (missed-nil (sight (a .v)) (a .sets .now)) (missed-append (sight (a .v)) (a .sets .now)) (a .log .now) (l .base) (l .left) (has (l .m)) _ (l .inv .0) (c .loop-test .left))
+    (blocks-end (missedBy (sight (a .v)) (a .sets .now)) (missed-nil (sight (a .v)) (a .sets .now)) (missed-append (sight (a .v)) (a .sets .now)) (a .log .now) (l .base) (l .left) (has (l .m)) _ (l .inv .1) (c .loop-test .left))
 
 pub missed-of-spec : {M : Type 1} → statement M
 missed-of-spec =

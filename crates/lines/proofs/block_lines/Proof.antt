@@ -1,13 +1,14 @@
--- `verdicts::block_lines` meets its contract.
 use mathlib.Core.Path.{_≡_, refl}
 use Prim.Native.Nat.{_+_, _<_}
 use native.Mathlib.Omega.{arith}
 use borrow.Author.Needs.{needs}
 use lib.ListN.{length, getD}
+use Rattle.rules.specs.Refusals.{Given}
 use Rattle.rules.specs.LogBlock.{recordsAt, episodesAt, blockEpisodes}
-use Rattle.lines.specs.Lines.{Given, Lines}
-use Rattle.records.proofs.RecordLaws.{frame-fits}
-use Rattle.lines.proofs.GivenLaws.{met-not-refused, met-next, met-lent}
+use Rattle.lines.specs.Lines.{Lines}
+use Rattle.records.proofs.RecordLaws.{next-fits}
+use Rattle.episodes.proofs.EpisodeLaws.{met-frame, met-next}
+use Rattle.lines.proofs.GivenLaws.{met-lent}
 use Rattle.lines.proofs.LineLaws.{lines-none, record-lines, records-all}
 use Rattle.lines.proofs.block_lines.Statement.{statement}
 use Rattle.lines.proofs.block_lines.Tie as tie
@@ -29,43 +30,28 @@ shared-slice-read-left c = search needs
 loop-holds : tie.Need-loop-holds Inv-loop μ-loop
 loop-holds c = (search needs, refl, omega (arith, c .shared-slice-known3 .given 0), refl, lines-none _ _ _ _ _ _ refl)
 
-frame-requires : tie.Need-frame-requires Inv-loop μ-loop
-frame-requires c κs = search needs
-
-enum-known-r : tie.Need-enum-known-r Inv-loop μ-loop
-enum-known-r c = search needs
-
-enum-told : tie.Need-enum-told Inv-loop μ-loop
-enum-told c = search needs
-
-same-length : tie.Need-same-length Inv-loop μ-loop
-same-length c = search needs
-
-same-length-2 : tie.Need-same-length-2 Inv-loop μ-loop
-same-length-2 c = search needs
-
-returns : tie.Need-returns Inv-loop μ-loop
-returns c = absurd (search met-not-refused depth 9)
+next-record-requires : tie.Need-next-record-requires Inv-loop μ-loop
+next-record-requires c κs = (search needs, omega arith, search met-frame depth 7)
 
 add-from : tie.Need-add-from Inv-loop μ-loop
-add-from c = let f = frame-fits 1 _ _ _ _ (c .before .before .before .frame .ensures) (c .before .r .given .1) in omega arith
+add-from c = omega (arith, next-fits 1 _ _ _ (c .next-record .ensures))
 
 sub-verdict-line : tie.Need-sub-verdict-line Inv-loop μ-loop
-sub-verdict-line c = let f = frame-fits 1 _ _ _ _ (c .before .before .before .frame .ensures) (c .before .r .given .1) in omega arith
+sub-verdict-line c = omega (arith, next-fits 1 _ _ _ (c .next-record .ensures))
 
 part-verdict-line-start : tie.Need-part-verdict-line-start Inv-loop μ-loop
-part-verdict-line-start c = let f = frame-fits 1 _ _ _ _ (c .before .before .before .frame .ensures) (c .before .r .given .1) in omega arith
+part-verdict-line-start c = omega (arith, next-fits 1 _ _ _ (c .next-record .ensures))
 
 part-verdict-line-end : tie.Need-part-verdict-line-end Inv-loop μ-loop
-part-verdict-line-end c = let f = frame-fits 1 _ _ _ _ (c .before .before .before .frame .ensures) (c .before .r .given .1) in omega arith
+part-verdict-line-end c = omega (arith, next-fits 1 _ _ _ (c .next-record .ensures))
 
 verdict-line-requires : tie.Need-verdict-line-requires Inv-loop μ-loop
-verdict-line-requires c κs = (search needs, search met-lent depth 9, search needs, search needs)
+verdict-line-requires c κs = (search needs, search met-lent depth 7, search needs, search needs)
 
 add-number : tie.Need-add-number Inv-loop μ-loop
 add-number c =
-    let l = c .before .before .before .before .before .before .before .before .before .before .before .before .before .loop in
-    let few = c .before .before .before .before .before .before .before .before .before .before .before .before .before .before .before .before .before .before .before .pre .3 in
+    let l = c .before .before .before .before .before .before .before .before .before .before .loop in
+    let few = c .before .before .before .before .before .before .before .before .before .before .before .before .before .before .before .before .pre .3 in
     omega (arith, l .inv .1, l .inv .2)
 
 sub-left : tie.Need-sub-left Inv-loop μ-loop
@@ -76,25 +62,24 @@ loop-less c = search needs
 
 loop-again : tie.Need-loop-again Inv-loop μ-loop
 loop-again c =
-    let l = c .before .before .before .before .before .before .before .before .before .before .before .before .before .loop in
-    let framed = c .before .before .before .before .before .before .before .before .before .before .before .frame .ensures in
-    let next = c .before .before .before .before .before .before .before .before .before .r .given .1 in
-    let h = c .before .before .before .before .before .before .before .before .before .before .before .before .loop-test in (
-      search met-next depth 9,
+    let l = c .before .before .before .before .before .before .before .before .before .before .loop in
+    let next = c .before .before .before .before .before .before .before .before .next-record .ensures in
+    let h = c .before .before .before .before .before .before .before .before .before .loop-test in (
+      search met-next depth 7,
       omega arith,
       search needs,
       search needs,
-      record-lines _ _ _ _ _ (c .before .before .before .before .before .before .before .before .before .before .before .before .before .before .before .before .before .before .before .pre .2) framed next (omega arith) (omega arith) (l .inv .4) (c .before .before .before .before .verdict-line .ensures),
+      record-lines _ _ _ _ (c .before .before .before .before .before .before .before .before .before .before .before .before .before .before .before .before .pre .2) next (omega arith) (omega arith) (l .inv .4) (c .before .before .before .before .verdict-line .ensures),
     )
 
-same-length-3 : tie.Need-same-length-3 Inv-loop μ-loop
-same-length-3 c = search needs
+same-length : tie.Need-same-length Inv-loop μ-loop
+same-length c = search needs
 
-same-length-4 : tie.Need-same-length-4 Inv-loop μ-loop
-same-length-4 c = search needs
+same-length-2 : tie.Need-same-length-2 Inv-loop μ-loop
+same-length-2 c = search needs
 
-returns-2 : tie.Need-returns-2 Inv-loop μ-loop
-returns-2 c = records-all _ _ _ _ (omega arith) (omega arith) (c .before .loop .inv .4)
+returns : tie.Need-returns Inv-loop μ-loop
+returns c = records-all _ _ _ _ (omega arith) (omega arith) (c .before .loop .inv .4)
 
 pub block-lines-spec : {M : Type 1} → statement M
 block-lines-spec =
@@ -104,12 +89,7 @@ block-lines-spec =
     μ-loop
     shared-slice-read-left
     loop-holds
-    frame-requires
-    enum-known-r
-    enum-told
-    same-length
-    same-length-2
-    returns
+    next-record-requires
     add-from
     sub-verdict-line
     part-verdict-line-start
@@ -119,6 +99,6 @@ block-lines-spec =
     sub-left
     loop-less
     loop-again
-    same-length-3
-    same-length-4
-    returns-2)
+    same-length
+    same-length-2
+    returns)

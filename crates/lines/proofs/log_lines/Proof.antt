@@ -1,12 +1,12 @@
--- `verdicts::log_lines` meets its contract.
 use mathlib.Core.Path.{_≡_, refl}
 use Prim.Native.Nat.{_+_, _*_, _≤_, _<_}
 use native.Mathlib.Omega.{arith}
 use borrow.Author.Needs.{needs}
 use lib.ListN.{length}
+use Rattle.rules.specs.Refusals.{Given}
 use Rattle.rules.specs.LogBlock.{blocksAt, episodesFrom, logEpisodes}
-use Rattle.lines.specs.Lines.{Given, Lines}
-use Rattle.lines.proofs.GivenLaws.{log-sound, block-sound, blocks-sound}
+use Rattle.lines.specs.Lines.{Lines}
+use Rattle.episodes.proofs.EpisodeLaws.{log-sound, block-sound, blocks-sound}
 use Rattle.lines.proofs.LineLaws.{lines-none, block-lines, log-lines}
 use Rattle.lines.proofs.log_lines.Statement.{statement}
 use Rattle.lines.proofs.log_lines.Tie as tie

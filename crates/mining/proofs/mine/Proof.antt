@@ -5,6 +5,7 @@ use native.Mathlib.Omega.{arith}
 use lib.ListN.{drop}
 use lib.Seq.{length-take-le}
 use borrow.Author.Tests.{not-true, not-false}
+use Rattle.rules.proofs.AnswerLaws.{is-given}
 use Rattle.logs.proofs.LogLaws.{sized-most}
 use Rattle.mining.proofs.CallLaws.{mining-length, mining-out, mining-work, mining-log, refused-says, handed-says, gives-says}
 use borrow.Author.Needs.{needs}
@@ -58,7 +59,7 @@ part-mine-tree-end c = search needs
 mine-tree-requires : tie.Need-mine-tree-requires
 mine-tree-requires c κs =
     let a = c .before .before .before .before .before .before .before .before .before .before .before .before .before .before .before .args in
-    (length-take-le 512 (a .out .now) (c .before .before .before .before .before .before .before .before .before .if2 .left), (c .before .before .before .before .before .enum-told .given .0 .0, sym (c .before .before .before .before .before .before .before .sound-log .ensures) ∙ c .before .before .before .before .before .enum-told .given .1))
+    (length-take-le 512 (a .out .now) (c .before .before .before .before .before .before .before .before .before .if2 .left), is-given _ _ _ (c .before .before .before .before .before .before .before .sound-log .ensures) (c .before .before .before .before .before .enum-told .given .1))
 
 same-length : tie.Need-same-length
 same-length c = search needs

@@ -3,6 +3,7 @@ use native.Mathlib.Omega.{arith}
 use lib.ListN.{length}
 use Rattle.rules.specs.Trees.{size}
 use Rattle.rules.specs.LogBlock.{logEpisodes}
+use Rattle.rules.proofs.AnswerLaws.{given-is}
 use Rattle.rules.proofs.Occurring.{Below}
 use Rattle.episodes.proofs.EpisodeLaws.{log-codes}
 use native.Mathlib.Nat.{zero-add}
@@ -22,11 +23,11 @@ mine-node-requires : tie.Need-mine-node-requires
 mine-node-requires c κs =
     let a = c .before .before .before .before .before .before .before .before .args in
     let l = logEpisodes 1 (a .log .now) in
-    let sound = c .before .before .before .before .before .before .before .before .pre .1 in
+    let sound = given-is _ (c .before .before .before .before .before .before .before .before .pre .1) in
     let small : Below 32 l = log-codes 1 (a .log .now) (sound .0) (omega arith) (sound .1) in
     let v = c .before .root-of in
     let zeroed = c .before .before .before .before .clear in
-    root-ready l small (v .result) (v .ensures) (zeroed .last .0) (ap length (zeroed .ensures ∙ clear-whole (a .tree .now) (c .before .before .before .before .before .before .before .before .pre .0)) ∙ zeros-length 512)
+    (c .before .before .before .before .before .before .before .before .pre .1, root-ready l small (v .result) (v .ensures) (zeroed .last .0) (ap length (zeroed .ensures ∙ clear-whole (a .tree .now) (c .before .before .before .before .before .before .before .before .pre .0)) ∙ zeros-length 512))
 
 seal-requires : tie.Need-seal-requires
 seal-requires c κs = search needs
@@ -38,7 +39,7 @@ returns : tie.Need-returns
 returns c =
     let a = c .before .before .before .before .before .before .before .before .before .before .before .before .before .before .before .args in
     let l = logEpisodes 1 (a .log .now) in
-    let sound = c .before .before .before .before .before .before .before .before .before .before .before .before .before .before .before .pre .1 in
+    let sound = given-is _ (c .before .before .before .before .before .before .before .before .before .before .before .before .before .before .before .pre .1) in
     let small : Below 32 l = log-codes 1 (a .log .now) (sound .0) (omega arith) (sound .1) in
     let v = c .before .before .before .before .before .before .before .before .root-of in
     let zeroed = c .before .before .before .before .before .before .before .before .before .before .before .clear in

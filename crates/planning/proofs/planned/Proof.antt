@@ -41,7 +41,7 @@ cut-of-requires : tie.Need-cut-of-requires
 cut-of-requires c κs = search needs
 
 cut-plan-requires : tie.Need-cut-plan-requires
-cut-plan-requires c κs = c .before .cut-of .ensures .few
+cut-plan-requires c κs = (search needs, c .before .cut-of .ensures .few)
 
 returns-4 : tie.Need-returns-4
 returns-4 c =

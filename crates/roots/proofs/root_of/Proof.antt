@@ -2,7 +2,9 @@ use mathlib.Core.Path.{_≡_, refl, _∙_}
 use Prim.Native.Nat.{_+_, _*_, _-_, _≤_}
 use native.Mathlib.Omega.{arith}
 use lib.ListN.{length}
-use Rattle.rules.specs.LogBlock.{logEpisodes, episodesFrom}
+use Rattle.rules.specs.Refusals.{Given}
+use Rattle.rules.specs.LogBlock.{blocksAt, logEpisodes, episodesFrom}
+use Rattle.episodes.proofs.EpisodeLaws.{log-sound, block-sound, blocks-sound}
 use Rattle.views.specs.Sublogs.{sight}
 use Rattle.roots.specs.Widened.{widened}
 use Rattle.views.proofs.PassLaws.{blocks-end, blocks-next}
@@ -12,7 +14,8 @@ use Rattle.roots.proofs.root_of.Statement.{statement}
 use Rattle.roots.proofs.root_of.Tie as tie
 
 abbrev Inv-loop : tie.InvT-loop
-Inv-loop log v₀ base₀ left₀ v base left = (widened (sight v₀) (logEpisodes 1 log) ≡ widened (sight v) (episodesFrom 1 left log base)) × (base + 512 * left ≤ length log)
+Inv-loop log v₀ base₀ left₀ v base left =
+    Given (blocksAt 1 31 left log base) × (widened (sight v₀) (logEpisodes 1 log) ≡ widened (sight v) (episodesFrom 1 left log base)) × (base + 512 * left ≤ length log)
 
 abbrev μ-loop : tie.MeasureT-loop
 μ-loop log v₀ base₀ left₀ v base left = left
@@ -24,7 +27,7 @@ none-requires-2 : tie.Need-none-requires-2 Inv-loop μ-loop
 none-requires-2 c κs = search needs
 
 loop-holds : tie.Need-loop-holds Inv-loop μ-loop
-loop-holds c = (unfold logEpisodes in refl, omega arith)
+loop-holds c = (search log-sound, unfold logEpisodes in refl, omega arith)
 
 add-end : tie.Need-add-end Inv-loop μ-loop
 add-end c = search needs
@@ -39,7 +42,7 @@ part-root-block-end : tie.Need-part-root-block-end Inv-loop μ-loop
 part-root-block-end c = search needs
 
 root-block-requires : tie.Need-root-block-requires Inv-loop μ-loop
-root-block-requires c κs = search needs
+root-block-requires c κs = (search needs, search block-sound depth 7)
 
 sub-left : tie.Need-sub-left Inv-loop μ-loop
 sub-left c = search needs
@@ -48,11 +51,11 @@ loop-less : tie.Need-loop-less Inv-loop μ-loop
 loop-less c = search needs
 
 loop-again : tie.Need-loop-again Inv-loop μ-loop
-loop-again c = (search (blocks-next widened widened-nil widened-append) depth 9, omega arith)
+loop-again c = (search blocks-sound depth 7, search (blocks-next widened widened-nil widened-append) depth 9, omega arith)
 
 returns : tie.Need-returns Inv-loop μ-loop
 returns c =
-    blocks-end widened widened-nil widened-append _ _ _ _ _ (c .before .loop .inv .0) (c .loop-test .left)
+    blocks-end widened widened-nil widened-append _ _ _ _ _ (c .before .loop .inv .1) (c .loop-test .left)
     ∙ widened-root _ _ _ (c .before .before .before .none .ensures) (c .before .before .none2 .ensures)
 
 pub root-of-spec : {M : Type 1} → statement M
