@@ -1,8 +1,9 @@
 //! The measured inputs are as large as they are said to be.
 
+use independent::answer::refuse;
 use independent::calls::{check, Gateway};
 use independent::fast::Fast;
-use independent::generate::largest::{Task, SHAPES};
+use independent::generate::largest::{Task, BROKEN, SHAPES};
 use independent::log::episodes_of;
 use std::collections::BTreeSet;
 
@@ -19,10 +20,18 @@ fn logs_are_full_and_trees_are_large() {
                 assert_eq!((log.len(), codes.len()), (8_192, 32), "{name}");
                 assert!(log.chunks(512).all(|block| block[450..508].iter().any(|&byte| byte != 0)), "{name}");
             }
-            Task::Judge { tree, episode } => {
-                assert_eq!((check(&tree.block()), episode.len()), (Ok(127), 63), "{name}");
+            Task::Judge { block, episode } => {
+                assert_eq!((check(&block), episode.len()), (Ok(127), 63), "{name}");
             }
         }
+    }
+}
+
+#[test]
+fn broken_blocks_are_refused() {
+    for (name, make) in BROKEN {
+        let Task::Judge { block, .. } = make() else { panic!("{name} is judged") };
+        assert_eq!(check(&block), refuse(9, 0), "{name}");
     }
 }
 

@@ -32,7 +32,7 @@ module _ (at argument size : ℕ) (seen : CodeSet) where
   silent-size a z = record { after = tt; is = λ l s. simp (eq-eqb _ _ a, ne-eqb _ _ z) tt }
 
   pub silent-here : argument ≡ 0 → size ≡ 1 → at < entryCount → LeafSays at seen (silentRule at argument size) (Upto (at + 1) seen)
-  silent-here a z h = record { after = (omega arith, omega arith); is = λ l s. simp (eq-eqb _ _ a, eq-eqb _ _ z) (refl, s) }
+  silent-here a z h = record { after = refl; is = λ l s. simp (eq-eqb _ _ a, eq-eqb _ _ z) (refl, s) }
 
   pub leaf-above : codeCount ≤ argument → LeafSays at seen (leafRule codeCount at argument size) Broken
   leaf-above a = record { after = tt; is = λ l s. simp (le-ltb _ _ a) tt }
@@ -50,7 +50,7 @@ module _ (at argument size : ℕ) (seen : CodeSet) where
           LeafSays at seen (leafRule codeCount at argument size) (Upto (at + 1) grown)
       leaf-here grown e h w =
           record {
-            after = (omega arith, omega arith);
+            after = refl;
             is = λ l s. simp (lt-ltb _ _ a, eq-eqb _ _ z, sym (s argument) ∙ e) (refl, same-with seen grown argument l a s w);
           }
 

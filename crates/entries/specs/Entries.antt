@@ -1,7 +1,7 @@
 -- What an entry tells of the page's rules. The set of codes seen is held as bits; the rules have a list.
 use mathlib.Core.Path.{_≡_}
 use mathlib.Core.List.{List}
-use Prim.Native.Nat.{ℕ, _≤_, _<_}
+use Prim.Native.Nat.{ℕ, _+_, _<_}
 use lib.Dec.{ltb}
 use Rattle.rules.specs.Words.{pick, mem}
 use Rattle.rules.specs.TreeBlock.{Sound, upto, broken, sizedRule, entryRule}
@@ -24,9 +24,9 @@ Agrees (Upto next seen) broken = ⊥
 Agrees Broken (upto end l) = ⊥
 Agrees Broken broken = Unit {0}
 
--- a node ends after its entry, by entry 127
+-- a node that its entry settles ends after that entry
 abbrev pub After : ℕ → Checked → Type 0
-After at (Upto next seen) = (at < next) × (next ≤ entryCount)
+After at (Upto next seen) = next ≡ at + 1
 After at Broken = Unit {0}
 
 -- a leaf's answer, by its rule

@@ -15,7 +15,7 @@ use Rattle.rules.specs.TreeBlock.{Sound, upto, broken, kindOf, kindAt, a
 use Rattle.rules.specs.Holds.{EntryIs, Holds, HoldsAll}
 use Rattle.rules.proofs.AnswerLaws.{pick-case}
 use Rattle.rules.proofs.ListLaws.{has-append-left, has-append-right, has-append-cases}
-use Rattle.rules.proofs.TreeLaws.{tree-some, two-children, children-two}
+use Rattle.rules.proofs.TreeLaws.{tree-some, children-sizes, two-children, children-two}
 use Rattle.rules.proofs.Entries.{opOf, kind-opOf, kind-low, kind-high}
 use Rattle.rules.proofs.Fresh.{onto, Fresh, onto-append, fresh-append, fresh-front, fresh-rest}
 
@@ -171,6 +171,15 @@ module _ (limit m : ℕ) (b : List ℕ) where
   -- THEOREM: what the rule for a node passes, at any depth, is a tree that the block holds
   pub node-holds : (f at next : ℕ) (seen grown : List ℕ) → nodeAt limit m f b at seen ≡ upto next grown → (t : Tree) × TreeHeld at seen next grown t
   node-holds f at next seen grown e = subst (NodeFound at seen) e (node-found f at seen)
+
+  -- and what the rule for a list passes takes an entry for each of its nodes
+  pub list-entries : (f at n next : ℕ) (seen grown : List ℕ) → listAt limit m f b at n seen ≡ upto next grown → at + n ≤ next
+  list-entries f at n next seen grown e =
+      let found = subst (ListFound at n seen) e (list-found f at n seen) in
+      let few = children-sizes (found .0) in
+      let count = found .1 .count in
+      let ends = found .1 .ends in
+      omega arith
 
   -- ---- what passes the rules
 

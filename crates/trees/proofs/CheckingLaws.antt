@@ -15,29 +15,31 @@ use Rattle.rules.specs.Calls.{codeCount, entryCount, formedBy, formed, checking
 use Rattle.rules.specs.declared.Answer.{Answer}
 use Rattle.rules.specs.declared.Answer.the-variants.{Gives, Refused}
 use Rattle.rules.proofs.BoolLaws.{bool-cases}
+use Rattle.rules.proofs.NodeLaws.{node-holds}
 use Rattle.codes.specs.Bits.{has}
 use Rattle.codes.specs.declared.CodeSet.{CodeSet}
 use Rattle.codes.proofs.BitLaws.{has-zero}
 use Rattle.entries.specs.declared.Checked.{Checked}
 use Rattle.entries.specs.declared.Checked.the-variants.{Upto, Broken}
 use Rattle.entries.specs.Entries.{Agrees}
-use Rattle.trees.specs.Checks.{NodeSays, wholeBlock}
+use Rattle.trees.specs.Checks.{Within, NodeSays, wholeBlock}
 
-agrees-broken : (x : Sound) → Agrees Broken x → x ≡ broken
-agrees-broken (upto end l) h = absurd h
-agrees-broken broken h = refl
+-- no tree goes past entry 127
+within-broken : (b : List ℕ) (x : Sound) → x ≡ rootOf entryCount codeCount b → Within entryCount Broken x → x ≡ broken
+within-broken b (upto next l) e h = let fits = node-holds entryCount codeCount b (suc (2 * entryCount)) 0 next [] l (sym e) .1 .fits in absurd (omega arith)
+within-broken b broken e h = refl
 
 agrees-upto : (next : ℕ) (seen : CodeSet) (x : Sound) → Agrees (Upto next seen) x → (l : List ℕ) × (x ≡ upto next l)
 agrees-upto next seen (upto end l) (e, s) = (l, ap (λ (n : ℕ). upto n l) (sym e))
 agrees-upto next seen broken h = absurd h
 
-module _ (b : List ℕ) (seen : CodeSet) (none : seen .bits ≡ 0) (r : Checked) (says : NodeSays b 0 seen r) where
-  root : Agrees r (rootOf entryCount codeCount b)
+module _ (b : List ℕ) (seen : CodeSet) (none : seen .bits ≡ 0) (r : Checked) (says : NodeSays b 0 entryCount seen r) where
+  root : Within entryCount r (rootOf entryCount codeCount b)
   root = says .is [] (λ c. ap (λ (x : ℕ). has x c) none ∙ has-zero c) (suc (2 * entryCount)) (omega arith)
 
   pub formed-broken : r ≡ Broken → Refused 9 0 ≡ formed b
   unfolding formed
-  formed-broken e = let told : Agrees Broken (rootOf entryCount codeCount b) = rw e at root in sym (ap (λ (x : Sound). formedBy x b) (agrees-broken (rootOf entryCount codeCount b) told))
+  formed-broken e = let told : Within entryCount Broken (rootOf entryCount codeCount b) = rw e at root in sym (ap (λ (x : Sound). formedBy x b) (within-broken b (rootOf entryCount codeCount b) refl told))
 
   module _ (next : ℕ) (grown : CodeSet) (e : r ≡ Upto next grown) (k : ℕ) (first : k ≡ firstSet (part b (next * 4) (508 - next * 4))) where
     ends : (l : List ℕ) × (rootOf entryCount codeCount b ≡ upto next l)

@@ -4,20 +4,19 @@ use entries::Checked;
 use entries::Entry;
 use rules::Answer;
 ghost use mathlib.Core.Path.{_≡_};
-ghost use Prim.Native.Nat.{_<_};
+ghost use Prim.Native.Nat.{_+_, _≤_, _<_};
 ghost use lib.ListN.{length};
 ghost use Rattle.rules.specs.Calls.{entryCount, formed, checking};
-ghost use Rattle.trees.specs.Checks.{sizedOf, NodeSays, ListSays, wholeBlock};
+ghost use Rattle.trees.specs.Checks.{endedOf, NodeSays, ListSays, wholeBlock};
 
-// An operator ends where its size says.
-fn sized(below: Checked, at: usize, size: u8) -> Checked
-    requires { ⌜ at < entryCount ⌝ }
-    ensures { λ r. ⌜ r ≡ sizedOf at size below ⌝ }
+// An operator ends where its list of children does.
+fn ended(below: Checked, stop: usize) -> Checked
+    ensures { λ r. ⌜ r ≡ endedOf stop below ⌝ }
 {
     let Checked::Upto { next, seen } = below else {
         return Checked::Broken;
     };
-    if next == at + (size as usize) {
+    if next == stop {
         Checked::Upto {
             next: next,
             seen: seen,
@@ -27,31 +26,39 @@ fn sized(below: Checked, at: usize, size: u8) -> Checked
     }
 }
 
-// The rule for a node.
-fn node(tree: &[u8], at: usize, seen: CodeSet) -> Checked
-    requires { ⌜ length (now tree) ≡ 512 ⌝ }
-    ensures { λ r. ⌜ NodeSays (now (tree .entry)) at seen r ⌝ }
+// The rule for a node. One that would go past the end is broken at once, so that no block takes more stack than a tree.
+fn node(tree: &[u8], at: usize, end: usize, seen: CodeSet) -> Checked
+    requires { ⌜ (length (now tree) ≡ 512) × (at < end) × (end ≤ entryCount) ⌝ }
+    ensures { λ r. ⌜ NodeSays (now (tree .entry)) at end seen r ⌝ }
 {
     let e = entries::entry_at(tree, at, seen);
     match e {
         Entry::Settled(c) => c,
         Entry::Operator { children, size } => {
-            let below = list(tree, at + 1, children, seen);
-            sized(below, at, size)
+            let stop = at + (size as usize);
+            if end < stop {
+                return Checked::Broken;
+            }
+            if size <= children {
+                return Checked::Broken;
+            }
+            let below = list(tree, at + 1, children, stop, seen);
+            ended(below, stop)
         }
     }
 }
 
-// The rule for a list of nodes: a loop, so that siblings take no stack.
-fn list(tree: &[u8], at: usize, count: u8, seen: CodeSet) -> Checked
-    requires { ⌜ length (now tree) ≡ 512 ⌝ }
-    ensures { λ r. ⌜ ListSays (now (tree .entry)) at count seen r ⌝ }
+// The rule for a list of nodes: a loop, so that siblings take no stack. Each node leaves an entry for each that follows it.
+fn list(tree: &[u8], at: usize, count: u8, end: usize, seen: CodeSet) -> Checked
+    requires { ⌜ (length (now tree) ≡ 512) × (at + count ≤ end) × (end ≤ entryCount) ⌝ }
+    ensures { λ r. ⌜ ListSays (now (tree .entry)) at count end seen r ⌝ }
 {
     let mut next = at;
     let mut met = seen;
     let mut left = count;
     while 0 < left {
-        let one = node(tree, next, met);
+        let last = end + 1 - (left as usize);
+        let one = node(tree, next, last, met);
         let Checked::Upto {
             next: after,
             seen: more,
@@ -74,7 +81,7 @@ pub fn formed(tree: &[u8]) -> Answer
     requires { ⌜ length (now tree) ≡ 512 ⌝ }
     ensures { λ r. ⌜ r ≡ formed (now (tree .entry)) ⌝ }
 {
-    let root = node(tree, 0, CodeSet::none());
+    let root = node(tree, 0, 127, CodeSet::none());
     let Checked::Upto { next, seen: _ } = root else {
         return Answer::Refused {
             number: 9,

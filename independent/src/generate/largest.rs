@@ -1,15 +1,17 @@
-//! The largest inputs of several shapes: full logs with all 32 codes, and 63-event episodes on 127-node trees.
+//! The largest inputs of several shapes: full logs with all 32 codes, and 63-event episodes on 127-node trees; and blocks that
+//! are no trees, nested as deep as they can be.
 
 use super::logs::largest_log;
 use super::random::Random;
 use super::trees::short_episode;
+use crate::block::{write_check, BLOCK};
 use crate::log::{Episode, LONGEST_EPISODE};
 use crate::tree::{Operator, Tree};
 use Operator::{Choice, Loop, Parallel, Sequence};
 
 pub enum Task {
     Mine { log: Vec<u8> },
-    Judge { tree: Tree, episode: Episode },
+    Judge { block: [u8; BLOCK], episode: Episode },
 }
 
 type Shape = (&'static str, fn() -> Task);
@@ -38,8 +40,13 @@ pub const SHAPES: [Shape; 20] = [
     ("judge-flat-loop", || judge_any(among_silents(Loop))),
 ];
 
+/// Blocks of 127 operators, each the first child of the one before, which are refused: as many as leave room for their other
+/// children, or all of them.
+pub const BROKEN: [Shape; 2] =
+    [("judge-broken-nest", || nested_operators(2)), ("judge-broken-chain", || nested_operators(1))];
+
 pub fn task(name: &str) -> Option<Task> {
-    SHAPES.iter().find(|(shape, _)| *shape == name).map(|(_, make)| make())
+    SHAPES.iter().chain(&BROKEN).find(|(shape, _)| *shape == name).map(|(_, make)| make())
 }
 
 /// What becomes of the events that a tree gives.
@@ -165,15 +172,26 @@ fn judge_fit(tree: Tree) -> Task {
         let place = random.below(episode.len());
         episode.insert(place, episode[place]);
     }
-    Task::Judge { tree, episode }
+    Task::Judge { block: tree.block(), episode }
 }
 
 fn judge_any(tree: Tree) -> Task {
     let mut random = Random::seeded(64);
     let episode = (0..LONGEST_EPISODE).map(|_| random.below(32) as u8).collect();
-    Task::Judge { tree, episode }
+    Task::Judge { block: tree.block(), episode }
 }
 
 fn judge_one_code(tree: Tree) -> Task {
-    Task::Judge { tree, episode: vec![0; LONGEST_EPISODE] }
+    Task::Judge { block: tree.block(), episode: vec![0; LONGEST_EPISODE] }
+}
+
+/// Each operator's size is so much less than that of the one before.
+fn nested_operators(less: usize) -> Task {
+    let mut block = [0; BLOCK];
+    for at in 0..127 {
+        let size = 127usize.saturating_sub(less * at).max(1) as u8;
+        block[4 * at..4 * at + 4].copy_from_slice(&[4, 2, size, 0]);
+    }
+    write_check(&mut block);
+    Task::Judge { block, episode: vec![0; LONGEST_EPISODE] }
 }

@@ -1,5 +1,5 @@
 use native.Mathlib.Omega.{arith}
-use Rattle.trees.proofs.RuleLaws.{after-upto}
+use Rattle.trees.proofs.RuleLaws.{between-upto}
 use Rattle.trees.proofs.CheckingLaws.{formed-broken, formed-after, formed-here}
 use borrow.Author.Needs.{needs}
 use Rattle.trees.proofs.formed.Statement.{statement}
@@ -21,13 +21,13 @@ returns : tie.Need-returns
 returns c = formed-broken _ _ (c .before .before .before .none .ensures) _ (c .before .before .node .ensures) (c .enum-told .given .1)
 
 mul-end : tie.Need-mul-end
-mul-end c = omega (arith, after-upto _ (c .before .root .given .1) (c .before .before .before .node .ensures .after))
+mul-end c = omega (arith, between-upto _ (c .before .root .given .1) (c .before .before .before .node .ensures .ends))
 
 sub-first-set : tie.Need-sub-first-set
-sub-first-set c = omega (arith, after-upto _ (c .before .root .given .1) (c .before .before .before .node .ensures .after))
+sub-first-set c = omega (arith, between-upto _ (c .before .root .given .1) (c .before .before .before .node .ensures .ends))
 
 part-first-set-start : tie.Need-part-first-set-start
-part-first-set-start c = omega (arith, after-upto _ (c .before .root .given .1) (c .before .before .before .node .ensures .after))
+part-first-set-start c = omega (arith, between-upto _ (c .before .root .given .1) (c .before .before .before .node .ensures .ends))
 
 part-first-set-end : tie.Need-part-first-set-end
 part-first-set-end c = search needs
@@ -36,7 +36,7 @@ first-set-requires : tie.Need-first-set-requires
 first-set-requires c κs = search needs
 
 sub-if1 : tie.Need-sub-if1
-sub-if1 c = omega (arith, after-upto _ (c .before .before .before .root .given .1) (c .before .before .before .before .before .node .ensures .after))
+sub-if1 c = omega (arith, between-upto _ (c .before .before .before .root .given .1) (c .before .before .before .before .before .node .ensures .ends))
 
 returns-2 : tie.Need-returns-2
 returns-2 c =

@@ -39,8 +39,8 @@ impl Call {
     fn new(task: Task, side: Box<dyn Gateway>) -> Call {
         let task = match task {
             Task::Mine { log } => Lent::Mine { log, out: vec![0; BLOCK], work: vec![0; MINING_WORK] },
-            Task::Judge { tree, episode } => {
-                Lent::Judge { tree: tree.block().to_vec(), episode, work: vec![0; JUDGING_WORK] }
+            Task::Judge { block, episode } => {
+                Lent::Judge { tree: block.to_vec(), episode, work: vec![0; JUDGING_WORK] }
             }
         };
         Call { side, task }

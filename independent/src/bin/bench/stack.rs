@@ -25,7 +25,7 @@ pub fn bytes_of(call: &mut Call) -> usize {
 pub fn bytes_by_bridge(bridge: &Bridge, task: Task) -> u64 {
     match task {
         Task::Mine { log } => bridge.mining_stack(&log, &mut [0; BLOCK], &mut [0; MINING_WORK]),
-        Task::Judge { tree, episode } => bridge.judging_stack(&tree.block(), &episode, &mut vec![0; JUDGING_WORK]),
+        Task::Judge { block, episode } => bridge.judging_stack(&block, &episode, &mut vec![0; JUDGING_WORK]),
     }
 }
 
