@@ -75,7 +75,7 @@ pub fn log_lines(tree: &[u8], log: &[u8], work: &mut [u64], text: &mut [u8]) -> 
     while 0 < left {
         let end = base + 512;
         next = block_lines(tree, &log[base..end], number, work, text, next);
-        number += records::wide(log[base]);
+        number += log[base] as usize;
         base = end;
         left -= 1;
     }

@@ -7,19 +7,12 @@ ghost use Rattle.rules.specs.TreeBlock.{sizeAt};
 ghost use Rattle.codes.specs.Bits.{has};
 ghost use Rattle.subtrees.specs.Entries.{labelled};
 
-// A byte as a number.
-fn wide(byte: u8) -> usize
-    ensures { λ r. ⌜ r ≡ byte ⌝ }
-{
-    byte as usize
-}
-
 // The number of entries of the tree at entry v.
 pub fn size_at(tree: &[u8], v: usize) -> usize
     requires { ⌜ (v < 127) × (length (now tree) ≡ 512) ⌝ }
     ensures { λ r. ⌜ r ≡ sizeAt (now (tree .entry)) v ⌝ }
 {
-    wide(tree[v * 4 + 2])
+    tree[v * 4 + 2] as usize
 }
 
 // The codes of the leaves among n entries from v on.

@@ -1,6 +1,7 @@
 use mathlib.Core.Path.{_≡_, refl, sym}
 use native.Mathlib.Omega.{arith}
 use lib.ListN.{length}
+use mir.Facts.{fits-widen}
 use borrow.Author.Needs.{needs}
 use borrow.Author.Tests.{not-false}
 use Rattle.rules.specs.Refusals.{Given}
@@ -29,7 +30,7 @@ shared-slice-read-left : tie.Need-shared-slice-read-left Inv-loop μ-loop
 shared-slice-read-left c = search needs
 
 cast-left : tie.Need-cast-left Inv-loop μ-loop
-cast-left c = omega (arith, c .shared-slice-known2 .given 0)
+cast-left c = fits-widen tt (c .shared-slice-known2 .given _)
 
 loop-holds : tie.Need-loop-holds Inv-loop μ-loop
 loop-holds c = (search needs, refl, owned-field (c .before .before .before .before .before .args .g .rows) _ (c .before .before .before .before .before .good .1 .1 .0 .1 .1 .0) .size)

@@ -1,5 +1,6 @@
 use mathlib.Core.Path.{_≡_, refl}
 use native.Mathlib.Omega.{arith}
+use mir.Facts.{fits-widen}
 use borrow.Author.Needs.{needs}
 use Rattle.rules.specs.Refusals.{Given}
 use Rattle.rules.specs.LogBlock.{recordsAt, episodesAt, blockEpisodes}
@@ -24,7 +25,7 @@ shared-slice-read-left : tie.Need-shared-slice-read-left Inv-loop μ-loop
 shared-slice-read-left c = search needs
 
 cast-left : tie.Need-cast-left Inv-loop μ-loop
-cast-left c = omega (arith, c .shared-slice-known3 .given 0)
+cast-left c = fits-widen tt (c .shared-slice-known3 .given _)
 
 loop-holds : tie.Need-loop-holds Inv-loop μ-loop
 loop-holds c = (search needs, refl)

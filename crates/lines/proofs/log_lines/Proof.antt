@@ -1,6 +1,7 @@
 use mathlib.Core.Path.{_≡_, refl}
 use Prim.Native.Nat.{_+_, _*_, _≤_, _<_}
 use native.Mathlib.Omega.{arith}
+use mir.Facts.{fits-widen}
 use borrow.Author.Needs.{needs}
 use lib.ListN.{length}
 use Rattle.rules.specs.Refusals.{Given}
@@ -41,16 +42,16 @@ part-block-lines-end c = search needs
 block-lines-requires : tie.Need-block-lines-requires Inv-loop μ-loop
 block-lines-requires c κs = (search needs, search block-sound depth 7, search needs, search needs, search needs, search needs)
 
-shared-slice-read-wide : tie.Need-shared-slice-read-wide Inv-loop μ-loop
-shared-slice-read-wide c = search needs
+shared-slice-read-number : tie.Need-shared-slice-read-number Inv-loop μ-loop
+shared-slice-read-number c = search needs
 
-wide-requires : tie.Need-wide-requires Inv-loop μ-loop
-wide-requires c κs = search needs
+cast-number : tie.Need-cast-number Inv-loop μ-loop
+cast-number c = fits-widen tt (c .shared-slice-known3 .given _)
 
 add-number : tie.Need-add-number Inv-loop μ-loop
 add-number c =
-    let l = c .before .before .before .before .before .before .before .before .before .before .before .loop in
-    omega (arith, l .inv .2, c .before .shared-slice-known3 .given (l .base))
+    let l = c .before .before .before .before .before .before .before .before .before .before .loop in
+    omega (arith, l .inv .2, c .shared-slice-known3 .given (l .base))
 
 sub-left : tie.Need-sub-left Inv-loop μ-loop
 sub-left c = search needs
@@ -60,16 +61,16 @@ loop-less c = search needs
 
 loop-again : tie.Need-loop-again Inv-loop μ-loop
 loop-again c =
-    let l = c .before .before .before .before .before .before .before .before .before .before .before .loop in
-    let byte = c .before .shared-slice-known3 .given (l .base) in
+    let l = c .before .before .before .before .before .before .before .before .before .before .loop in
+    let byte = c .shared-slice-known3 .given (l .base) in
     let few = l .inv .2 in
-    let room = c .before .before .before .before .before .before .before .before .before .before .before .before .before .before .before .before .pre .4 in
+    let room = c .before .before .before .before .before .before .before .before .before .before .before .before .before .before .before .pre .4 in
     let h : 0 < l .left = omega arith in (
       search blocks-sound depth 7,
       omega arith,
       omega arith,
       search needs,
-      block-lines _ _ _ _ (c .wide .ensures) h (omega arith) (l .inv .4) (c .before .before .before .before .before .before .block-lines .ensures),
+      block-lines _ _ _ _ refl h (omega arith) (l .inv .4) (c .before .before .before .before .before .block-lines .ensures),
     )
 
 same-length : tie.Need-same-length Inv-loop μ-loop
@@ -93,8 +94,8 @@ log-lines-spec =
     part-block-lines-start
     part-block-lines-end
     block-lines-requires
-    shared-slice-read-wide
-    wide-requires
+    shared-slice-read-number
+    cast-number
     add-number
     sub-left
     loop-less

@@ -9,6 +9,7 @@ use Rattle.views.specs.Sublogs.{sight}
 use Rattle.roots.specs.Widened.{widened}
 use Rattle.views.proofs.PassLaws.{records-end, records-next}
 use Rattle.roots.proofs.RootLaws.{widened-nil, widened-append}
+use mir.Facts.{fits-widen}
 use borrow.Author.Needs.{needs}
 use Rattle.roots.proofs.root_block.Statement.{statement}
 use Rattle.roots.proofs.root_block.Tie as tie
@@ -23,7 +24,7 @@ shared-slice-read-left : tie.Need-shared-slice-read-left Inv-loop μ-loop
 shared-slice-read-left c = search needs
 
 cast-left : tie.Need-cast-left Inv-loop μ-loop
-cast-left c = omega (arith, c .shared-slice-known2 .given 0)
+cast-left c = fits-widen tt (c .shared-slice-known2 .given _)
 
 loop-holds : tie.Need-loop-holds Inv-loop μ-loop
 loop-holds c = (search needs, refl)
