@@ -24,7 +24,7 @@ use Rattle.parts.specs.Sets.{listsOf}
 use Rattle.parts.proofs.SetLaws.{number}
 use Rattle.loops.specs.Roomed.{roomed}
 use Rattle.cuts.specs.declared.Cut.{Cut}
-use Rattle.cuts.specs.Cuts.{Inside, cutElse}
+use Rattle.cuts.specs.Cuts.{Inside, cutElse, WithoutLoop}
 
 -- ---- how many
 
@@ -103,6 +103,67 @@ module _ (o : Op) (s : Shape) (p : Parts) (ps : List (List ℕ)) (size : length 
 
   pub cut-missed : p .n < 2 → s ≡ orElse o ps s
   cut-missed h = cut-later o s ps (omega (arith, number p ps size few e))
+
+-- ---- the first of choice, sequence and parallel: the parts of each, as they are looked for
+
+-- parts that were looked for are those of the rule
+pub record Looked (p : Parts) (ps : List (List ℕ)) : Type 0 where
+  pub size : length (p .sets) ≡ 32
+  pub few : p .n ≤ 32
+  pub is : listsOf p ≡ ps
+
+-- what is left to try after choice
+abbrev afterChoice : mining.Graph → Shape → Shape
+afterChoice g s = orElse sequence (sequenceParts g) (orElse parallel (parallelParts g) s)
+
+module _ (g : Graph) (kept : ℕ) (ch : Parts) (choices : Looked ch (choiceParts (meant g kept))) where
+  pub first-choice : 2 ≤ ch .n → WithoutLoop g kept (record { kind = 3; parts = ch })
+  unfolding cutElse
+  first-choice h =
+      record {
+        few = choices .few;
+        two = λ _. h;
+        shape = λ i s. cut-found choice (afterChoice (meant g kept) s) ch (choiceParts (meant g kept)) (choices .size) (choices .few) (choices .is) h;
+      }
+
+  module _ (none : ch .n < 2) (se : Parts) (sequences : Inside g kept → Looked se (sequenceParts (meant g kept))) (few : se .n ≤ 32) where
+    no-choice : (s : Shape) → afterChoice (meant g kept) s ≡ orElse choice (choiceParts (meant g kept)) (afterChoice (meant g kept) s)
+    no-choice s = cut-missed choice (afterChoice (meant g kept) s) ch (choiceParts (meant g kept)) (choices .size) (choices .few) (choices .is) none
+
+    pub first-sequence : 2 ≤ se .n → WithoutLoop g kept (record { kind = 4; parts = se })
+    unfolding cutElse
+    first-sequence h =
+        record {
+          few = few;
+          two = λ _. h;
+          shape = λ i s.
+              let k = sequences i in
+              cut-found sequence (orElse parallel (parallelParts (meant g kept)) s) se (sequenceParts (meant g kept)) (k .size) (k .few) (k .is) h ∙ no-choice s;
+        }
+
+    module _ (later : se .n < 2) (pa : Parts) (parallels : Looked pa (parallelParts (meant g kept))) where
+      no-sequence : Inside g kept → (s : Shape) → orElse parallel (parallelParts (meant g kept)) s ≡ orElse choice (choiceParts (meant g kept)) (afterChoice (meant g kept) s)
+      no-sequence i s =
+          let k = sequences i in
+          cut-missed sequence (orElse parallel (parallelParts (meant g kept)) s) se (sequenceParts (meant g kept)) (k .size) (k .few) (k .is) later ∙ no-choice s
+
+      pub first-parallel : 2 ≤ pa .n → WithoutLoop g kept (record { kind = 5; parts = pa })
+      unfolding cutElse
+      first-parallel h =
+          record {
+            few = parallels .few;
+            two = λ _. h;
+            shape = λ i s. cut-found parallel s pa (parallelParts (meant g kept)) (parallels .size) (parallels .few) (parallels .is) h ∙ no-sequence i s;
+          }
+
+      pub none-of-three : pa .n < 2 → WithoutLoop g kept (record { kind = 0; parts = pa })
+      unfolding cutElse
+      none-of-three h =
+          record {
+            few = parallels .few;
+            two = λ n. absurd (n refl);
+            shape = λ i s. cut-missed parallel s pa (parallelParts (meant g kept)) (parallels .size) (parallels .few) (parallels .is) h ∙ no-sequence i s;
+          }
 
 -- ---- one code alone has no choice, sequence or parallel cut
 

@@ -1,1 +1,2 @@
 pub mod EpisodeLaws
+pub mod BlockWise

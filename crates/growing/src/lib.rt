@@ -1,7 +1,6 @@
 // The tree of a view's sublog, written node by node.
 use codes::CodeSet;
 use views::View;
-ghost use mathlib.Core.Path.{_≡_};
 ghost use Rattle.rules.specs.Mining.{mined};
 ghost use Rattle.rules.specs.Refusals.{Given};
 ghost use Rattle.rules.specs.LogBlock.{logEpisodes};

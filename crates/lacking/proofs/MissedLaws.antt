@@ -15,15 +15,14 @@ use Rattle.rules.specs.Words.{any, from}
 use Rattle.rules.specs.Trees.{Op, choice, sequence, parallel, loop}
 use Rattle.rules.specs.Mining.{Log}
 use Rattle.rules.specs.TreeBlock.{kindOf}
-use Rattle.rules.proofs.BoolLaws.{or-off, or-assoc, bool-cases, bool-ext}
-use Rattle.rules.proofs.ListLaws.{any-has, has-from}
-use Rattle.rules.proofs.FilterLaws.{any-ext}
-use Rattle.codes.specs.Bits.{has, listed}
+use Rattle.rules.proofs.BoolLaws.{or-off, bool-cases}
+use Rattle.rules.proofs.ListLaws.{any-has, has-from, any-append}
+use Rattle.codes.specs.Bits.{has}
 use Rattle.codes.proofs.BitLaws.{has-zero, has-with, has-every, lt-or-le}
 use Rattle.codes.proofs.LowestLaws.{lowest-is}
 use Rattle.parts.proofs.SetLaws.{meets-on, meets-off, meets-listed}
 use Rattle.views.specs.Sublogs.{Set, Sight, piecesOf, lacks, bareOf, partSight}
-use Rattle.views.proofs.PassLaws.{any-append, pieces-append, bare-empty, bare-full}
+use Rattle.views.proofs.PassLaws.{pieces-append, bare-empty, bare-full}
 use Rattle.lacking.specs.Missed.{partAt, missedBy, lackedBy}
 
 none-more : (t l : Bool) → (t || (l && false)) ≡ t

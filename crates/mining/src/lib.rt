@@ -7,7 +7,6 @@ ghost use lib.ListN.{length, drop};
 ghost use Rattle.rules.specs.Words.{zeros};
 ghost use Rattle.rules.specs.Trees.{size};
 ghost use Rattle.rules.specs.Refusals.{Given};
-ghost use Rattle.rules.specs.LogBlock.{logEpisodes};
 ghost use Rattle.rules.specs.TreeBlock.{treeBlock};
 ghost use Rattle.rules.specs.Calls.{logSound, treeOf, MineSays};
 

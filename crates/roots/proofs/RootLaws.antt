@@ -9,11 +9,11 @@ use lib.ListN.{length}
 use Rattle.rules.specs.Words.{any, mem}
 use Rattle.rules.specs.Mining.{Episode, Log, isEmpty}
 use Rattle.rules.proofs.BoolLaws.{or-off, or-assoc}
+use Rattle.rules.proofs.ListLaws.{any-append}
 use Rattle.codes.specs.Bits.{has}
 use Rattle.codes.proofs.BitLaws.{has-zero}
 use Rattle.views.specs.Sublogs.{Set, Sight, rootSight}
 use Rattle.roots.specs.Widened.{widened}
-use Rattle.views.proofs.PassLaws.{any-append}
 
 or-none : (t s : Bool) → (t || (s && false)) ≡ t
 or-none true s = refl

@@ -2,7 +2,7 @@
 use mathlib.Core.Path.{_≡_, refl, sym, _∙_, ap}
 use mathlib.Core.Logic.{_⊎_, inl, inr, ⊎-elim}
 use mathlib.Core.List.{List, [], _∷_, _++_, append-assoc}
-use mathlib.Core.Bool.{Bool, true, false, _&&_, false≢true, true≢false}
+use mathlib.Core.Bool.{Bool, true, false, _&&_, _||_, false≢true, true≢false}
 use Prim.Native.Nat.{ℕ, zero, suc, _+_, _≤_, _<_}
 use native.Mathlib.Omega.{arith}
 use lib.Dec.{eqb}
@@ -10,7 +10,7 @@ use lib.ListN.{length}
 use borrow.Author.Tests.{eqb-true, eqb-false, eq-eqb}
 pub use Rattle.rules.specs.Words.{Has}
 use Rattle.rules.specs.Words.{any, all, push, keep, each, flat, mem, from}
-use Rattle.rules.proofs.BoolLaws.{or-left, or-right, or-cases, and-both, and-cases, bool-cases, not-both, bool-ext}
+use Rattle.rules.proofs.BoolLaws.{or-left, or-right, or-cases, or-assoc, and-both, and-cases, bool-cases, not-both, bool-ext}
 
 module _ {A : Type 0} where
   pub any-has : (p : A → Bool) (x : A) (xs : List A) → Has x xs → p x ≡ true → any p xs ≡ true
@@ -157,6 +157,10 @@ module _ {A : Type 0} where
   pub keep-append : (p : A → Bool) (xs ys : List A) → keep p (xs ++ ys) ≡ keep p xs ++ keep p ys
   keep-append p [] ys = refl
   keep-append p (x ∷ xs) ys = ap (push (p x) x) (keep-append p xs ys) ∙ push-append (p x) x (keep p xs) (keep p ys)
+
+pub any-append : {A : Type 0} (p : A → Bool) (xs ys : List A) → any p (xs ++ ys) ≡ (any p xs || any p ys)
+any-append p [] ys = refl
+any-append p (x ∷ xs) ys = ap (_||_ (p x)) (any-append p xs ys) ∙ sym (or-assoc (p x) (any p xs) (any p ys))
 
 pub flat-append : {A : Type 0} (xs ys : List (List A)) → flat (xs ++ ys) ≡ flat xs ++ flat ys
 flat-append [] ys = refl

@@ -12,12 +12,12 @@ use Rattle.rules.specs.Words.{pick, any}
 use Rattle.rules.specs.Mining as mining
 use Rattle.rules.specs.Mining.{Episode, Log, follows, startsWith, endsWith}
 use Rattle.rules.proofs.BoolLaws.{or-off, or-assoc, or-none, and-cases, bool-cases}
+use Rattle.rules.proofs.ListLaws.{any-append}
 use Rattle.codes.specs.Bits.{has, listed}
 use Rattle.codes.proofs.BitLaws.{lt-or-le}
 use Rattle.graphs.specs.Edges.{edgeOf, meant, Bare, Noted, Started, Ended}
 use Rattle.graphs.specs.declared.Graph.{Graph}
 use Rattle.views.specs.Sublogs.{Walk, stepBy, done, Sight, emptyIf, piecesOf, shown, drawn}
-use Rattle.views.proofs.PassLaws.{any-append}
 use Rattle.trails.specs.declared.Trail.{Trail}
 use Rattle.trails.specs.Growing.{joined, withPieces, resumed, trailed, addsNothing, lastAfter}
 use Rattle.views.proofs.SetLaws.{has-below}

@@ -16,7 +16,7 @@ use Rattle.entries.specs.declared.Checked.{Checked}
 use Rattle.entries.specs.declared.Checked.the-variants.{Upto, Broken}
 use Rattle.entries.specs.declared.Entry.{Entry}
 use Rattle.entries.specs.declared.Entry.the-variants.{Settled, Operator}
-use Rattle.entries.specs.Entries.{Same, Agrees, After, Past, EntrySays}
+use Rattle.entries.specs.Entries.{Same, Agrees, After, EntrySays}
 use Rattle.trees.specs.Checks.{Between, Within, endedOf, NodeSays, ListSays}
 
 pub between-upto : {low high next : ℕ} {seen : CodeSet} (r : Checked) → r ≡ Upto next seen → Between low high r → (low ≤ next) × (next ≤ high)

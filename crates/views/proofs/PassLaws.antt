@@ -1,14 +1,13 @@
 -- A pass over a log: what each turn over a block's records and over the blocks keeps, whatever the pass adds up.
-use mathlib.Core.Path.{_≡_, refl, sym, _∙_, ap}
+use mathlib.Core.Path.{_≡_, sym, _∙_, ap}
 use mathlib.Core.List.{List, [], _∷_, _++_, append-nil}
-use mathlib.Core.Bool.{Bool, true, false, _||_}
+use mathlib.Core.Bool.{Bool, true, false}
 use Prim.Native.Nat.{ℕ, _+_, _-_, _<_, _≤_}
 use lib.ListN.{length}
 use Rattle.rules.specs.declared.Answer.the-variants.{Gives}
 use Rattle.rules.specs.Words.{any, part, each, flat}
 use Rattle.rules.specs.Mining.{Episode, Log, project}
 use Rattle.rules.specs.LogBlock.{frameAt, eventsAt, episodesAt, blockEpisodes, episodesFrom}
-use Rattle.rules.proofs.BoolLaws.{or-assoc}
 use Rattle.rules.proofs.ListLaws.{each-append, flat-append}
 use Rattle.episodes.proofs.EpisodeLaws.{episodes-end, episodes-next, events-codes, blocks-episodes-end, blocks-episodes-next}
 use Rattle.views.specs.Sublogs.{Sight, emptyIf, pieces, piecesOf, shown, lacks, bareOf}
@@ -37,10 +36,6 @@ module _ {S : Type 0} (act : S → Log → S) (nil : (s : S) → act s [] ≡ s)
         ∙ ap (λ (z : S). act z (episodesFrom 1 (left - 1) log (base + 512))) (sym f)
 
 -- ---- the sub-episodes of a log
-
-pub any-append : {A : Type 0} (p : A → Bool) (xs ys : List A) → any p (xs ++ ys) ≡ (any p xs || any p ys)
-any-append p [] ys = refl
-any-append p (x ∷ xs) ys = ap (_||_ (p x)) (any-append p xs ys) ∙ sym (or-assoc (p x) (any p xs) (any p ys))
 
 pub pieces-append : (s : Sight) (l m : Log) → piecesOf s l ++ piecesOf s m ≡ piecesOf s (l ++ m)
 pieces-append s l m =

@@ -73,10 +73,7 @@ mine-node-returns t c =
 
 mine-node-add-next : (t : ℕ) → mine-node-lts.Need-add-next (env t) (mine-node-at t) mine-node.Post mine-node-Inv-loop mine-node-μ-loop
 mine-node-add-next t c =
-    let a = c .before .before .before .before .args in
-    let l = logEpisodes 1 (a .log .now) in
     let ready = c .before .before .before .before .pre .1 .1 in
-    let plan = c .before .planned in
     omega (arith, ready .room)
 
 mine-node-loop-holds : (t : ℕ) → mine-node-lts.Need-loop-holds (env t) (mine-node-at t) mine-node.Post mine-node-Inv-loop mine-node-μ-loop
@@ -89,17 +86,11 @@ mine-node-loop-holds t c =
 
 mine-node-mul-part-of : (t : ℕ) → mine-node-lts.Need-mul-part-of (env t) (mine-node-at t) mine-node.Post mine-node-Inv-loop mine-node-μ-loop
 mine-node-mul-part-of t c =
-    let a = c .before .before .before .before .before .before .args in
-    let l = logEpisodes 1 (a .log .now) in
-    let ready = c .before .before .before .before .before .before .pre .1 .1 in
     let plan = c .before .before .before .planned in
     omega (arith, plan .ensures .few)
 
 mine-node-element-copy-out-part-of : (t : ℕ) → mine-node-lts.Need-element-copy-out-part-of (env t) (mine-node-at t) mine-node.Post mine-node-Inv-loop mine-node-μ-loop
 mine-node-element-copy-out-part-of t c =
-    let a = c .before .before .before .before .before .before .args in
-    let l = logEpisodes 1 (a .log .now) in
-    let ready = c .before .before .before .before .before .before .pre .1 .1 in
     let plan = c .before .before .before .planned in
     omega (arith, plan .ensures .few)
 
@@ -136,9 +127,6 @@ mine-node-mine-node-requires t c κs =
 
 mine-node-add-i : (t : ℕ) → mine-node-lts.Need-add-i (env t) (mine-node-at t) mine-node.Post mine-node-Inv-loop mine-node-μ-loop
 mine-node-add-i t c =
-    let a = c .before .before .before .before .before .before .before .before .before .before .before .before .args in
-    let l = logEpisodes 1 (a .log .now) in
-    let ready = c .before .before .before .before .before .before .before .before .before .before .before .before .pre .1 .1 in
     let plan = c .before .before .before .before .before .before .before .before .before .planned in
     omega (arith, plan .ensures .few)
 
@@ -170,9 +158,6 @@ mine-node-loop-again t c =
 
 mine-node-byte-requires : (t : ℕ) → mine-node-lts.Need-byte-requires (env t) (mine-node-at t) mine-node.Post mine-node-Inv-loop mine-node-μ-loop
 mine-node-byte-requires t c κs =
-    let a = c .before .before .before .before .before .before .before .args in
-    let l = logEpisodes 1 (a .log .now) in
-    let ready = c .before .before .before .before .before .before .before .pre .1 .1 in
     let plan = c .before .before .before .before .planned in
     omega (arith, plan .ensures .few)
 
@@ -217,7 +202,6 @@ mine-node-put-requires t c κs =
 
 mine-node-same-length-2 : (t : ℕ) → mine-node-lts.Need-same-length-2 (env t) (mine-node-at t) mine-node.Post mine-node-Inv-loop mine-node-μ-loop
 mine-node-same-length-2 t c =
-    let at = c .before .before .before .before .before .before .before .loop in
     search needs
 
 mine-node-returns-2 : (t : ℕ) → mine-node-lts.Need-returns-2 (env t) (mine-node-at t) mine-node.Post mine-node-Inv-loop mine-node-μ-loop

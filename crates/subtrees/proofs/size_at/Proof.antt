@@ -1,5 +1,3 @@
-use Prim.Native.Nat.{_+_, _*_}
-use native.Mathlib.Omega.{arith}
 use mir.Facts.{fits-widen}
 use borrow.Author.Needs.{needs}
 use Rattle.subtrees.proofs.size_at.Statement.{statement}
