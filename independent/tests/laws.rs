@@ -36,6 +36,23 @@ fn a_mined_tree_fits_its_log_and_keeps_the_bound() {
     }
 }
 
+fn union(one: &Graph, other: &Graph) -> Graph {
+    Graph {
+        codes: &one.codes | &other.codes,
+        edges: &one.edges | &other.edges,
+        starts: &one.starts | &other.starts,
+        ends: &one.ends | &other.ends,
+    }
+}
+
+#[test]
+fn the_graph_of_logs_joined_is_the_union_of_their_graphs() {
+    for pair in logs(84, 300).windows(2) {
+        let [one, other] = [Graph::of(&pair[0]), Graph::of(&pair[1])];
+        assert_eq!(Graph::of(&(&pair[0] | &pair[1])), union(&one, &other), "{pair:?}");
+    }
+}
+
 fn events(log: &Log) -> usize {
     log.iter().map(Vec::len).sum()
 }

@@ -1,2 +1,3 @@
 pub mod EpisodeLaws
 pub mod BlockWise
+pub mod JoinedLogs

@@ -3,14 +3,14 @@ use mathlib.Core.Path.{_≡_, refl, subst}
 use mathlib.Core.Logic.{_⊎_, inl, inr, ⊎-elim}
 use mathlib.Core.List.{List, [], _∷_}
 use mathlib.Core.Bool.{true, _&&_, _||_, false≢true}
-use Prim.Native.Nat.{ℕ}
+use Prim.Native.Nat.{ℕ, _<_}
 use lib.Dec.{eqb}
 use borrow.Author.Tests.{eqb-true, eq-eqb}
 use Rattle.rules.specs.Words.{any, keep, each, mem}
 use Rattle.rules.specs.Mining.{Episode, Log, Rel, tableOf, tabled, occurring, graph, startsWith, lastOf, endsWith, follows, through, reach}
 use Rattle.rules.proofs.BoolLaws.{bool-ext, or-left, or-right, or-cases, and-both, and-cases}
 use Rattle.rules.proofs.ListLaws.{Has, any-has, has-any, has-keep, keep-has, each-has, has-each, mem-has, has-mem}
-use Rattle.rules.proofs.Occurring.{Below, code-in}
+use Rattle.rules.proofs.Occurring.{Below, code-at, code-in}
 
 -- ---- tables
 
@@ -72,10 +72,13 @@ later-step x y t a b h = or-right (eqb a x && eqb b y) (follows a b (y ∷ t)) h
 
 module _ (m : ℕ) (l : Log) where
   -- a step of an episode is an edge
-  pub step-edge : Below m l → (t : Episode) → Has t l → (a b : ℕ) → follows a b t ≡ true → graph m l .edge a b ≡ true
+  pub step-at : (t : Episode) → Has t l → (a b : ℕ) → a < m → b < m → follows a b t ≡ true → graph m l .edge a b ≡ true
   unfolding graph
-  step-edge s t i a b h =
-      tabled-in (λ x y. any (follows x y) l) (occurring m l) a b (code-in m l s t i a (step-codes a b t h .0)) (code-in m l s t i b (step-codes a b t h .1)) (any-has (follows a b) t l i h)
+  step-at t i a b p q h =
+      tabled-in (λ x y. any (follows x y) l) (occurring m l) a b (code-at m l t i a (step-codes a b t h .0) p) (code-at m l t i b (step-codes a b t h .1) q) (any-has (follows a b) t l i h)
+
+  pub step-edge : Below m l → (t : Episode) → Has t l → (a b : ℕ) → follows a b t ≡ true → graph m l .edge a b ≡ true
+  step-edge s t i a b h = let codes = step-codes a b t h in step-at t i a b (s t i a (codes .0)) (s t i b (codes .1)) h
 
   -- an edge is a step of some episode
   pub edge-step : (a b : ℕ) → graph m l .edge a b ≡ true → (t : Episode) × Has t l × (follows a b t ≡ true)

@@ -11,6 +11,7 @@ pub mod Fresh
 pub mod NodeLaws
 pub mod FormedLaws
 pub mod ByteLaws
+pub mod LogSize
 pub mod Distinct
 pub mod Occurring
 pub mod Components
@@ -21,6 +22,7 @@ pub mod Joining
 pub mod Order
 pub mod Runs
 pub mod SameEpisodes
+pub mod Unions
 pub mod FilterLaws
 pub mod SmallestFirst
 pub mod Cuts

@@ -170,6 +170,11 @@ pub each-append : {A B : Type 0} (f : A → B) (xs ys : List A) → each f (xs +
 each-append f [] ys = refl
 each-append f (x ∷ xs) ys = ap (_∷_ (f x)) (each-append f xs ys)
 
+-- what a filter keeps of a list's own elements
+pub mem-keep : (p : ℕ → Bool) (c : ℕ) (xs : List ℕ) → Has c xs → mem c (keep p xs) ≡ p c
+mem-keep p c xs i =
+    bool-ext (mem c (keep p xs)) (p c) (λ h. has-keep p c xs (mem-has c (keep p xs) h) .1) (λ h. has-mem c (keep p xs) (keep-has p c xs i h))
+
 pub mem-not : (c : ℕ) (xs : List ℕ) → (Has c xs → ⊥) → mem c xs ≡ false
 mem-not c xs n = ⊎-elim (λ (h : mem c xs ≡ true). absurd (n (mem-has c xs h))) (λ (h : mem c xs ≡ false). h) (bool-cases (mem c xs))
 

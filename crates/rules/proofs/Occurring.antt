@@ -12,10 +12,12 @@ abbrev pub Below : ℕ → Log → Type 0
 Below m l = (t : Episode) → Has t l → (c : ℕ) → Has c t → c < m
 
 module _ (m : ℕ) (l : Log) where
-  pub code-in : Below m l → (t : Episode) → Has t l → (c : ℕ) → Has c t → Has c (occurring m l)
+  pub code-at : (t : Episode) → Has t l → (c : ℕ) → Has c t → c < m → Has c (occurring m l)
   unfolding occurring
-  code-in s t i c j =
-      keep-has (λ x. any (mem x) l) c (from 0 m) (let h = s t i c j in has-from m 0 c (omega arith) (omega arith)) (any-has (mem c) t l i (has-mem c t j))
+  code-at t i c j h = keep-has (λ x. any (mem x) l) c (from 0 m) (has-from m 0 c (omega arith) (omega arith)) (any-has (mem c) t l i (has-mem c t j))
+
+  pub code-in : Below m l → (t : Episode) → Has t l → (c : ℕ) → Has c t → Has c (occurring m l)
+  code-in s t i c j = code-at t i c j (s t i c j)
 
   pub code-of : (c : ℕ) → Has c (occurring m l) → (t : Episode) × Has t l × Has c t
   unfolding occurring

@@ -2,6 +2,7 @@ pub mod Words
 pub mod Trees
 pub mod WellFormed
 pub mod Mining
+pub mod Union
 pub mod Refusals
 pub mod LogBlock
 pub mod TreeBlock

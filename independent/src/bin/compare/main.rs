@@ -27,7 +27,7 @@ fn main() -> ExitCode {
 
 type Suite = fn(&mut Tally);
 
-const SUITES: [(&str, Suite); 17] = [
+const SUITES: [(&str, Suite); 18] = [
     ("reading, every place of a block", reading::every_place),
     ("reading, lengths and far places", reading::lengths),
     ("adding, every length of episode", adding::every_length),
@@ -38,6 +38,7 @@ const SUITES: [(&str, Suite); 17] = [
     ("mining, logs of trees with a few events changed", mining::near_trees),
     ("mining, full logs", mining::full_logs),
     ("mining, the measured logs", mining::measured_logs),
+    ("mining, logs joined in either order and to themselves", mining::joined_logs),
     ("mining, two faults at once", mining::two_faults),
     ("checking, sound and damaged trees", trees::sound_and_damaged),
     ("checking, every byte changed", trees::every_byte),

@@ -11,7 +11,8 @@ use independent::generate::logs::{
 };
 use independent::generate::random::Random;
 use independent::generate::trees::{short_episode, some_codes, some_tree, some_tree_under, OPERATORS};
-use independent::log::{add, Episode};
+use independent::log::{add, Episode, MOST_BLOCKS};
+use independent::tree::Tree;
 
 fn mine(tally: &mut Tally, log: Vec<u8>) {
     tally.case(Case::Mine { log, out: BLOCK, work: MINING_WORK });
@@ -129,6 +130,45 @@ pub fn measured_logs(tally: &mut Tally) {
             mine(tally, log);
         }
     }
+}
+
+/// Logs of every two numbers of blocks that make at most 17, joined in either order, and the first joined to itself. The
+/// order must not matter, nor must joining a log to itself where 16 blocks hold it.
+pub fn joined_logs(tally: &mut Tally) {
+    let mut random = Random::seeded(35);
+    for (blocks, others) in (1..=MOST_BLOCKS).flat_map(|n| (1..=MOST_BLOCKS + 1 - n).map(move |m| (n, m))) {
+        for kind in 0..4 {
+            let (one, other) = two_logs(&mut random, blocks, others, kind);
+            let (out, work) = match (blocks + kind) % 8 {
+                0 => (BLOCK - 1, MINING_WORK),
+                1 => (BLOCK, MINING_WORK - 1),
+                2 => (BLOCK + 1, MINING_WORK + 1),
+                _ => (BLOCK, MINING_WORK),
+            };
+            let mut mined = |logs: &[&[u8]]| tally.case(Case::Mine { log: logs.concat(), out, work });
+            let [order, turned] = [mined(&[&one, &other]), mined(&[&other, &one])];
+            let [once, twice] = [mined(&[&one]), mined(&[&one, &one])];
+            tally.holds("the order of two logs does not matter", order.leaves_as(&turned));
+            if 2 * blocks <= MOST_BLOCKS {
+                tally.holds("a log joined to itself adds nothing", once.leaves_as(&twice));
+            }
+        }
+    }
+}
+
+/// Full logs of so many blocks: of one tree, of two trees with other codes, of two trees with the same, of any episodes.
+fn two_logs(random: &mut Random, blocks: usize, others: usize, kind: usize) -> (Vec<u8>, Vec<u8>) {
+    if kind == 3 {
+        let (codes, longest) = (random.between(1, 6), random.between(0, 6));
+        let mut any = |blocks| full_log(random, blocks, |random| any_episode(random, codes, longest));
+        return (any(blocks), any(others));
+    }
+    let codes = some_codes(random, 12);
+    let hands = if kind == 1 { [&codes[..5], &codes[5..]] } else { [&*codes, &*codes] };
+    let one = some_tree(random, hands[0]);
+    let other = if kind == 0 { one.clone() } else { some_tree(random, hands[1]) };
+    let mut of = |tree: &Tree, blocks| full_log(random, blocks, |random| short_episode(random, tree, 3));
+    (of(&one, blocks), of(&other, others))
 }
 
 #[derive(Clone, Copy, PartialEq, Eq)]

@@ -24,6 +24,8 @@ pub struct Tally {
     met: BTreeMap<(&'static str, u8), usize>,
     /// How often an episode did not fit and did.
     verdicts: [usize; 2],
+    /// How often each law between several calls held and did not.
+    laws: BTreeMap<&'static str, [usize; 2]>,
 }
 
 /// The numbers that each call gives, 0 for accepting; every one must be met.
@@ -62,7 +64,7 @@ impl Tally {
         let mut sides = vec![side(Box::new(Fast), false)];
         sides.extend(library_sides());
         sides.extend(bridge_sides());
-        Tally { cases: 0, sides, met: BTreeMap::new(), verdicts: [0; 2] }
+        Tally { cases: 0, sides, met: BTreeMap::new(), verdicts: [0; 2], laws: BTreeMap::new() }
     }
 
     /// Compares every side with the plain one and answers the plain one's outcome.
@@ -95,6 +97,11 @@ impl Tally {
         expected
     }
 
+    /// A law between several calls, of the plain side's outcomes, which every other side shares or fails.
+    pub fn holds(&mut self, law: &'static str, held: bool) {
+        self.laws.entry(law).or_default()[!held as usize] += 1;
+    }
+
     /// Prints the counts of the calls that were asked for, each of whose numbers must have been met.
     pub fn report(&self, wanted: &str) -> ExitCode {
         let mut unmet = 0;
@@ -108,11 +115,16 @@ impl Tally {
             println!("verdicts: {} fit, {} misfit", self.verdicts[1], self.verdicts[0]);
             unmet += self.verdicts.iter().filter(|&&count| count == 0).count();
         }
+        let mut broken = 0;
+        for (law, [held, not]) in &self.laws {
+            println!("{law}: held {held} times, not {not}");
+            broken += not;
+        }
         for side in &self.sides {
             println!("{}: {} passed, {} failed", side.gateway.name(), side.passed, side.failed);
         }
         let passed: usize = self.sides.iter().map(|side| side.passed).sum();
-        let failed: usize = self.sides.iter().map(|side| side.failed).sum::<usize>() + unmet;
+        let failed: usize = self.sides.iter().map(|side| side.failed).sum::<usize>() + unmet + broken;
         println!("{passed} passed, {failed} failed");
         ExitCode::from((failed > 0) as u8)
     }

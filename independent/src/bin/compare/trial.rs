@@ -67,6 +67,13 @@ pub struct Outcome {
     pub numbers: Vec<u64>,
 }
 
+impl Outcome {
+    /// The same answer, and the same in everything that was lent to be written, whatever was read.
+    pub fn leaves_as(&self, other: &Outcome) -> bool {
+        self.answer == other.answer && self.bytes[1..] == other.bytes[1..] && self.numbers == other.numbers
+    }
+}
+
 /// Odd, so that lent bytes begin at an odd address.
 pub const GUARD: usize = 61;
 
