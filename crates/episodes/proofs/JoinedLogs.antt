@@ -8,7 +8,7 @@ use lib.ListN.{length, drop, take, length-append, length-drop}
 use lib.Seq.{take-append-le, drop-append-le, drop-append-add}
 use lib.Dec.{ltb}
 use borrow.Author.Tests.{lt-ltb, ltb-true, ltb-false}
-use Rattle.rules.specs.Mining.{Graph, graph}
+use Rattle.rules.specs.Mining.{graph}
 use Rattle.rules.specs.Union.{union}
 use Rattle.rules.specs.Refusals.{Given}
 use Rattle.rules.specs.LogBlock.{blocksAt, blockEpisodes, episodesFrom, logEpisodes, logSized}
@@ -98,7 +98,7 @@ module _ (w : ℕ) (a b : List ℕ) (accepted-a : Given (logReading w a)) (accep
       let y = blocks w b accepted-b in
       joined-episodes a b (x .count) (x .whole) w (y .count) (y .whole)
 
-  -- THEOREM: their graph is the union of their graphs
+  -- THEOREM: joined, their graph is the union of their graphs
   pub accepted-graph : graph codeCount (logEpisodes w (a ++ b)) ≡ union codeCount (graph codeCount (logEpisodes w a)) (graph codeCount (logEpisodes w b))
   accepted-graph = ap (graph codeCount) accepted-episodes ∙ graph-joined codeCount (logEpisodes w a) (logEpisodes w b)
 

@@ -10,7 +10,7 @@ use Rattle.rules.specs.Words.{any, keep, each, mem}
 use Rattle.rules.specs.Mining.{Episode, Log, Rel, tableOf, tabled, occurring, graph, startsWith, lastOf, endsWith, follows, through, reach}
 use Rattle.rules.proofs.BoolLaws.{bool-ext, or-left, or-right, or-cases, and-both, and-cases}
 use Rattle.rules.proofs.ListLaws.{Has, any-has, has-any, has-keep, keep-has, each-has, has-each, mem-has, has-mem}
-use Rattle.rules.proofs.Occurring.{Below, code-at, code-in}
+use Rattle.rules.proofs.Occurring.{Below, code-at}
 
 -- ---- tables
 

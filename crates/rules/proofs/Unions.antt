@@ -1,11 +1,11 @@
 -- Logs joined: their graph is the union of their graphs, and the tree does not depend on their order.
 use mathlib.Core.Path.{_≡_, sym, _∙_, ap}
 use mathlib.Core.Logic.{⊎-elim}
-use mathlib.Core.List.{List, _++_}
+use mathlib.Core.List.{_++_}
 use mathlib.Core.Bool.{Bool, true, _||_}
 use Prim.Native.Nat.{ℕ}
 use Rattle.rules.specs.Words.{any, keep, mem, from}
-use Rattle.rules.specs.Mining.{Episode, Log, Graph, occurring, graph, follows, startsWith, endsWith, mined}
+use Rattle.rules.specs.Mining.{Episode, Log, Graph, occurring, graph, startsWith, endsWith, mined}
 use Rattle.rules.specs.Union.{union}
 use Rattle.rules.proofs.BoolLaws.{or-left, or-right, or-cases, or-comm, or-assoc, bool-ext}
 use Rattle.rules.proofs.ListLaws.{Has, has-append-left, has-append-right, has-append-cases, keep-ext, any-append, mem-keep}
