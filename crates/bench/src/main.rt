@@ -1,5 +1,9 @@
 // Runs the bench sheet on standard input, whose top says how its lines are read: prints each row as ok or wrong, and how many are.
 use rules::Answer;
+use rules::BLOCK_SIZE;
+use rules::JUDGE_WORK;
+use rules::MINE_WORK;
+use rules::TREE_SIZE;
 use rules::Verdict;
 ghost use Prim.Native.Nat.{_≤_};
 
@@ -112,15 +116,15 @@ fn every_number(work: &[u64], from: usize, to: usize, x: u64) -> bool {
 fn is(r: Answer, row: &[u8], k: usize) -> bool
     requires { ⌜ k ≤ 3 ⌝ }
 {
-    let said = sheet::number(row, k);
-    let last = sheet::values(row);
+    let said = bench_sheet::number(row, k);
+    let last = bench_sheet::values(row);
     match r {
         Answer::Gives(n) => said == n && last == k,
         Answer::Refused { number, place } => {
             if last != k + 2 {
                 return false;
             }
-            said == number as usize && sheet::number(row, last) == place
+            said == number as usize && bench_sheet::number(row, last) == place
         }
     }
 }
@@ -128,8 +132,8 @@ fn is(r: Answer, row: &[u8], k: usize) -> bool
 // Whether a part is the bytes that a row lists after its second value.
 fn listed(row: &[u8], part: &[u8]) -> bool {
     let mut want = [0u8; 64];
-    sheet::lay(row, 2, &mut want, 0);
-    if sheet::values(row) != part.len() + 2 {
+    bench_sheet::lay(row, 2, &mut want, 0);
+    if bench_sheet::values(row) != part.len() + 2 {
         return false;
     }
     check::same(front(&want, part.len()), part)
@@ -137,7 +141,7 @@ fn listed(row: &[u8], part: &[u8]) -> bool {
 
 // Whether bytes begin with those that a row lists.
 fn held(row: &[u8], bytes: &[u8]) -> bool {
-    let n = sheet::values(row);
+    let n = bench_sheet::values(row);
     if n < 2 {
         return false;
     }
@@ -146,18 +150,18 @@ fn held(row: &[u8], bytes: &[u8]) -> bool {
 
 // A row that only looks at the input.
 fn looked(word: u32, row: &[u8], input: &[u8]) -> bool {
-    let at = sheet::number(row, 1);
+    let at = bench_sheet::number(row, 1);
     if word == LOG {
-        return is(logs::read_log(input), row, 2);
+        return is(log_whole::read_log(input), row, 2);
     }
     if word == CHECK {
-        return is(trees::check(input), row, 2);
+        return is(tree_check::check(input), row, 2);
     }
     if word == READ {
-        return is(records::read(input, at), row, 3);
+        return is(log_records::read(input, at), row, 3);
     }
     if word == CODES {
-        return listed(row, records::codes(input, at));
+        return listed(row, log_records::codes(input, at));
     }
     if word == BYTES {
         return held(row, rest(input, at));
@@ -168,7 +172,7 @@ fn looked(word: u32, row: &[u8], input: &[u8]) -> bool {
 // An episode added to the input; gives 0 where the input is larger than there is room for.
 fn add_to(input: &mut [u8], size: usize, episode: &[u8]) -> Answer {
     if size <= input.len() {
-        return adding::add(&mut input[..size], episode);
+        return log_adding::add(&mut input[..size], episode);
     }
     Answer::Gives(0)
 }
@@ -193,31 +197,31 @@ fn added(row: &[u8], input: &mut [u8], size: usize, episode: &[u8]) -> bool {
 fn seal(input: &mut [u8], base: usize) {
     if base <= input.len() {
         let room = input.len() - base;
-        if 512 <= room {
-            let end = base + 512;
-            seals::seal(&mut input[base..end]);
+        if BLOCK_SIZE <= room {
+            let end = base + BLOCK_SIZE;
+            block_seal::seal(&mut input[base..end]);
         }
     }
 }
 
 // The block of the tree that a row lists is written, and no byte after it; the work is zero, and none of it after its 16,384 bytes.
 fn written(nodes: usize, row: &[u8], out: &[u8], work: &[u8]) -> bool {
-    let mut tree = [0u8; 512];
-    sheet::lay(row, 1, &mut tree, 0);
+    let mut tree = [0u8; TREE_SIZE];
+    bench_sheet::lay(row, 1, &mut tree, 0);
     seal(&mut tree, 0);
-    if sheet::values(row) / 4 != nodes {
+    if bench_sheet::values(row) / 4 != nodes {
         return false;
     }
-    if !check::same(front(out, 512), &tree) {
+    if !check::same(front(out, TREE_SIZE), &tree) {
         return false;
     }
-    if !every(out, 512, out.len(), 7) {
+    if !every(out, TREE_SIZE, out.len(), 7) {
         return false;
     }
-    if !every(work, 0, 16384, 0) {
+    if !every(work, 0, MINE_WORK, 0) {
         return false;
     }
-    every(work, 16384, work.len(), 9)
+    every(work, MINE_WORK, work.len(), 9)
 }
 
 // A refusal as the row says it, with nothing written.
@@ -233,7 +237,7 @@ fn refused(r: Answer, row: &[u8], out: &[u8], work: &[u8]) -> bool {
 
 // Mining into a block of sevens with work of nines.
 fn mined(row: &[u8], log: &[u8], out: &mut [u8], work: &mut [u8]) -> bool {
-    let r = mining::mine(log, out, work);
+    let r = mine_call::mine(log, out, work);
     let Answer::Gives(nodes) = r else {
         return refused(r, row, out, work);
     };
@@ -265,14 +269,14 @@ fn left_so(v: Verdict, work: &[u64]) -> bool {
     if let Verdict::Refused { .. } = v {
         return every_number(work, 0, work.len(), 7);
     }
-    if !every_number(work, 0, 8128, 0) {
+    if !every_number(work, 0, JUDGE_WORK, 0) {
         return false;
     }
-    every_number(work, 8128, work.len(), 7)
+    every_number(work, JUDGE_WORK, work.len(), 7)
 }
 
 fn judged(row: &[u8], tree: &[u8], episode: &[u8], work: &mut [u64]) -> bool {
-    let v = judging::judge(tree, episode, work);
+    let v = judge_call::judge(tree, episode, work);
     if !verdict_is(v, row) {
         return false;
     }
@@ -309,13 +313,13 @@ fn says(row: &[u8], text: &[u8]) -> bool {
 
 fn prints_listing(row: &[u8], log: &[u8]) -> bool {
     let mut text = [0u8; 2169];
-    let n = printing::mined_text(log, &mut text);
+    let n = text_mined::mined_text(log, &mut text);
     says(rest(row, 12), front(&text, n))
 }
 
 fn prints_verdicts(row: &[u8], input: &[u8]) -> bool {
     let mut text = [0u8; 53040];
-    let n = verdicts::judged_text(input, &mut text);
+    let n = text_judged::judged_text(input, &mut text);
     says(rest(row, 13), front(&text, n))
 }
 
@@ -381,16 +385,16 @@ fn row(line: &[u8], call: &[u8], input: &mut [u8], episode: &[u8], mut state: St
 // The episode of the line added to the input.
 fn record(line: &[u8], input: &mut [u8], size: usize) {
     let mut codes = [0u8; 64];
-    sheet::lay(line, 0, &mut codes, 0);
-    add_to(input, size, front(&codes, sheet::values(line)));
+    bench_sheet::lay(line, 0, &mut codes, 0);
+    add_to(input, size, front(&codes, bench_sheet::values(line)));
 }
 
 // `lend BLOCK WORK NUMBERS`.
 fn set_lent(word: u32, line: &[u8], mut state: State) -> State {
     if word == LEND {
-        state.block = sheet::number(line, 1);
-        state.work = sheet::number(line, 2);
-        state.numbers = sheet::number(line, 3);
+        state.block = bench_sheet::number(line, 1);
+        state.work = bench_sheet::number(line, 2);
+        state.numbers = bench_sheet::number(line, 3);
         return state;
     }
     wrong(b"not understood: ", line, state)
@@ -398,14 +402,14 @@ fn set_lent(word: u32, line: &[u8], mut state: State) -> State {
 
 // `new N`, `put AT BYTES`, `seal AT`, `record CODES`.
 fn set_input(word: u32, line: &[u8], input: &mut [u8], mut state: State) -> State {
-    let n = sheet::number(line, 1);
+    let n = bench_sheet::number(line, 1);
     if word == NEW {
         fill(input, 0);
         state.input = n;
         return state;
     }
     if word == PUT {
-        sheet::lay(line, 1, input, n);
+        bench_sheet::lay(line, 1, input, n);
         return state;
     }
     if word == SEAL {
@@ -423,13 +427,13 @@ fn set_input(word: u32, line: &[u8], input: &mut [u8], mut state: State) -> Stat
 fn set_up(line: &[u8], input: &mut [u8], episode: &mut [u8], mut state: State) -> State {
     let word = word(line);
     if word == EPISODE {
-        sheet::lay(line, 0, episode, 0);
-        state.events = sheet::values(line);
+        bench_sheet::lay(line, 0, episode, 0);
+        state.events = bench_sheet::values(line);
         return state;
     }
     if word == EVENTS {
-        fill(episode, (sheet::number(line, 2) % 256) as u8);
-        state.events = sheet::number(line, 1);
+        fill(episode, (bench_sheet::number(line, 2) % 256) as u8);
+        state.events = bench_sheet::number(line, 1);
         return state;
     }
     set_input(word, line, input, state)

@@ -6,8 +6,8 @@ use lib.ListN.{length, getD}
 use Rattle.rules.specs.Calls.{reading, handedOn, checking, AddSays, MineSays, JudgeSays}
 use Rattle.rules.specs.declared.Answer.{Answer}
 use Rattle.rules.specs.declared.Verdict.{Verdict}
-use Rattle.adding.proofs.AddLaws.{add-unique}
-use Rattle.judging.proofs.OneAnswer.{judge-one}
+use Rattle.log_adding.proofs.AddLaws.{add-unique}
+use Rattle.judge_call.proofs.OneAnswer.{judge-one}
 use Rattle.gateway.specs.Packed.{packed, packedVerdict, AddPacked, MinePacked, JudgePacked}
 
 -- THEOREM: reading a record

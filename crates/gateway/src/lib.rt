@@ -36,7 +36,7 @@ fn pack_verdict(verdict: Verdict) -> u64
 pub extern "C" fn arrabolzu_read(block: &[u8], at: usize) -> u64
     ensures { λ r. ⌜ r ≡ packed (reading 1 (now (block .entry)) at) ⌝ }
 {
-    pack(records::read(block, at))
+    pack(log_records::read(block, at))
 }
 
 // Adding an episode to a log block: the new count.
@@ -44,7 +44,7 @@ pub extern "C" fn arrabolzu_read(block: &[u8], at: usize) -> u64
 pub extern "C" fn arrabolzu_add(block: &mut [u8], episode: &[u8]) -> u64
     ensures { λ r. ⌜ AddPacked (now (block .entry)) (now (episode .entry)) r (now (block .exit)) ⌝ }
 {
-    pack(adding::add(block, episode))
+    pack(log_adding::add(block, episode))
 }
 
 // Mining a log: the number of nodes, and the tree in the first 512 bytes of `out`.
@@ -52,7 +52,7 @@ pub extern "C" fn arrabolzu_add(block: &mut [u8], episode: &[u8]) -> u64
 pub extern "C" fn arrabolzu_mine(log: &[u8], out: &mut [u8], work: &mut [u8]) -> u64
     ensures { λ r. ⌜ MinePacked (now (log .entry)) (now (out .entry)) (now (work .entry)) r (now (out .exit)) (now (work .exit)) ⌝ }
 {
-    pack(mining::mine(log, out, work))
+    pack(mine_call::mine(log, out, work))
 }
 
 // Checking a tree block: the number of nodes.
@@ -60,7 +60,7 @@ pub extern "C" fn arrabolzu_mine(log: &[u8], out: &mut [u8], work: &mut [u8]) ->
 pub extern "C" fn arrabolzu_check(tree: &[u8]) -> u64
     ensures { λ r. ⌜ r ≡ packed (checking (now (tree .entry))) ⌝ }
 {
-    pack(trees::check(tree))
+    pack(tree_check::check(tree))
 }
 
 // Judging an episode against a tree: 1 where it fits, 0 where it does not.
@@ -68,5 +68,5 @@ pub extern "C" fn arrabolzu_check(tree: &[u8]) -> u64
 pub extern "C" fn arrabolzu_judge(tree: &[u8], episode: &[u8], work: &mut [u64]) -> u64
     ensures { λ r. ⌜ JudgePacked (now (tree .entry)) (now (episode .entry)) (now (work .entry)) r (now (work .exit)) ⌝ }
 {
-    pack_verdict(judging::judge(tree, episode, work))
+    pack_verdict(judge_call::judge(tree, episode, work))
 }

@@ -4,6 +4,6 @@ fn main() {
     let mut input = [0u8; 8705];
     let n = io::read_full(0, &mut input);
     let mut text = [0u8; 53040];
-    let k = verdicts::judged_text(&input[..n], &mut text);
+    let k = text_judged::judged_text(&input[..n], &mut text);
     io::write_all(1, &text[..k]);
 }

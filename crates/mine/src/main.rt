@@ -4,6 +4,6 @@ fn main() {
     let mut log = [0u8; 8193];
     let n = io::read_full(0, &mut log);
     let mut text = [0u8; 2169];
-    let k = printing::mined_text(&log[..n], &mut text);
+    let k = text_mined::mined_text(&log[..n], &mut text);
     io::write_all(1, &text[..k]);
 }

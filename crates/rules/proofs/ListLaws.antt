@@ -3,7 +3,7 @@ use mathlib.Core.Path.{_≡_, refl, sym, _∙_, ap}
 use mathlib.Core.Logic.{_⊎_, inl, inr, ⊎-elim}
 use mathlib.Core.List.{List, [], _∷_, _++_, append-assoc}
 use mathlib.Core.Bool.{Bool, true, false, _&&_, _||_, false≢true, true≢false}
-use Prim.Native.Nat.{ℕ, zero, suc, _+_, _≤_, _<_}
+use Prim.Native.Nat.{ℕ, zero, suc, _+_, _-_, _≤_, _<_}
 use native.Mathlib.Omega.{arith}
 use lib.Dec.{eqb}
 use lib.ListN.{length}
@@ -81,6 +81,13 @@ pub has-mem : (c : ℕ) (xs : List ℕ) → Has c xs → mem c xs ≡ true
 has-mem c (x ∷ xs) (inl e) = or-left (eqb c x) (mem c xs) (eq-eqb c x e)
 has-mem c (x ∷ xs) (inr m) = or-right (eqb c x) (mem c xs) (has-mem c xs m)
 has-mem c [] m = absurd m
+
+-- the numbers from j on, where k is the next
+pub from-down : (m k j : ℕ) → j + 1 ≡ k → k ≤ m → from j (m - j) ≡ j ∷ from k (m - k)
+from-down m k j e l =
+    let s : m - j ≡ suc (m - k) = omega arith in
+    let t : suc j ≡ k = omega arith in
+    ap (from j) s ∙ ap (λ (i : ℕ). j ∷ from i (m - k)) t
 
 pub has-from : (n i c : ℕ) → i ≤ c → c < i + n → Has c (from i n)
 has-from zero i c p q = absurd (omega arith)

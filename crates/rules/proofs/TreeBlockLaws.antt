@@ -11,6 +11,7 @@ use Rattle.rules.specs.Trees.{Tree, size}
 use Rattle.rules.specs.LogBlock.{weighed, fourBytes, sealed}
 use Rattle.rules.specs.TreeBlock.{entries, treeBlock}
 use Rattle.rules.specs.Holds.{Holds}
+use Rattle.rules.specs.Calls.{entryCount}
 use Rattle.rules.proofs.Entries.{entries-length, entries-one}
 use Rattle.rules.proofs.HoldsLaws.{holds, held-entries}
 
@@ -32,7 +33,7 @@ filled t = entries t ++ zeros (512 - length (entries t))
 abbrev pub payload : Tree → List ℕ
 payload t = entries t ++ zeros (508 - 4 * size t)
 
-module _ (t : Tree) (h : size t ≤ 127) where
+module _ (t : Tree) (h : size t ≤ entryCount) where
   pub filled-length : length (filled t) ≡ 512
   filled-length =
       let e = entries-length t in
@@ -61,7 +62,7 @@ module _ (t : Tree) (h : size t ≤ 127) where
       ∙ append-assoc (entries t) (zeros (508 - 4 * size t)) (fourBytes (weighed (filled t) 508))
 
 -- the block of a tree holds it from entry 0 on
-pub treeBlock-holds : (t : Tree) (b : List ℕ) → treeBlock t ≡ b → size t ≤ 127 → Holds t b 0
+pub treeBlock-holds : (t : Tree) (b : List ℕ) → treeBlock t ≡ b → size t ≤ entryCount → Holds t b 0
 treeBlock-holds t b e h = holds t b (zeros (508 - 4 * size t) ++ fourBytes (weighed (filled t) 508)) 0 (sym e ∙ treeBlock-is t h)
 
 -- ---- the block of a tree of any size; no other tree has it
@@ -91,11 +92,11 @@ front-one t u rest e =
     (sym (append-assoc (entries t) rest (drop 508 (filled u))) ∙ ap (λ (l : List ℕ). l ++ drop 508 (filled u)) (sym e) ∙ take-append-drop 508 (filled u)) .0
 
 -- THEOREM: two trees with one block are one tree, where one of them has at most 127 nodes
-pub block-one : (t u : Tree) → size t ≤ 127 → treeBlock t ≡ treeBlock u → t ≡ u
+pub block-one : (t u : Tree) → size t ≤ entryCount → treeBlock t ≡ treeBlock u → t ≡ u
 block-one t u h e = front-one t u (zeros (508 - 4 * size t)) (sym (treeBlock-front u) ∙ ap (take 508) (sym e) ∙ treeBlock-front t ∙ filled-front t h)
 
 -- the first 508 bytes of a block that holds a tree
-pub held-front : (t : Tree) (b : List ℕ) → Holds t b 0 → size t ≤ 127 → length b ≡ 512 → take 508 b ≡ entries t ++ part b (size t * 4) (508 - size t * 4)
+pub held-front : (t : Tree) (b : List ℕ) → Holds t b 0 → size t ≤ entryCount → length b ≡ 512 → take 508 b ≡ entries t ++ part b (size t * 4) (508 - size t * 4)
 held-front t b held h long =
     let l = entries-length t in
     let whole : b ≡ entries t ++ drop (size t * 4) b = held-entries t b 0 held (omega arith) ∙ ap (λ (k : ℕ). entries t ++ drop (k * 4) b) (zero-add (size t)) in
@@ -103,7 +104,7 @@ held-front t b held h long =
     ∙ take-append-add (entries t) (drop (size t * 4) b) (508 - size t * 4)
 
 -- a tree whose block holds another is that one
-pub held-one : (t u : Tree) (b : List ℕ) → Holds t b 0 → size t ≤ 127 → treeBlock u ≡ b → t ≡ u
+pub held-one : (t u : Tree) (b : List ℕ) → Holds t b 0 → size t ≤ entryCount → treeBlock u ≡ b → t ≡ u
 held-one t u b held h e =
     front-one t u (part b (size t * 4) (508 - size t * 4))
     (sym (treeBlock-front u) ∙ ap (take 508) e ∙ held-front t b held h (ap length (sym e) ∙ treeBlock-length u))

@@ -9,6 +9,15 @@ use lib.Dec.{ltb, leb, eqb}
 use Rattle.rules.specs.Words.{pick, mem, zeros, part}
 use Rattle.rules.specs.Trees.{Op, choice, sequence, parallel, loop, Tree, silent, leaf, node, Forest, none, more, size, sizes, children}
 use Rattle.rules.specs.LogBlock.{sealed, firstSet}
+use Rattle.rules.specs.declared.Operator.{Operator}
+use Rattle.rules.specs.declared.Operator.the-variants.{Choice, Sequence, Parallel, Loop}
+
+-- the operator that the code names
+abbrev pub opOf : Operator → Op
+opOf Choice = choice
+opOf Sequence = sequence
+opOf Parallel = parallel
+opOf Loop = loop
 
 -- ---- writing
 

@@ -1,0 +1,116 @@
+// Sets of codes, one bit a code.
+use rules::NO_CODE;
+ghost use mathlib.Core.Path.{_≡_};
+ghost use mathlib.Core.Bool.{_||_, _&&_, not};
+ghost use Prim.Native.Nat.{ℕ, _<_};
+ghost use lib.Dec.{eqb, ltb};
+ghost use Rattle.rules.specs.Mining.{headOf};
+ghost use Rattle.rules.specs.Calls.{codeCount};
+ghost use Rattle.code_sets.specs.Bits.{has, count, least, listed};
+
+pub struct CodeSet {
+    pub bits: u32,
+}
+
+impl CodeSet {
+    // The number of codes, a bit for each.
+    pub const WIDTH: u32 = 32;
+
+    // The bits of every code.
+    pub const ALL: u32 = 4294967295;
+
+    pub const EMPTY: CodeSet = CodeSet { bits: 0 };
+
+    pub const FULL: CodeSet = CodeSet { bits: CodeSet::ALL };
+
+    // No code.
+    pub fn none() -> Self
+        ensures { λ r. ⌜ r .bits ≡ 0 ⌝ }
+    {
+        CodeSet::EMPTY
+    }
+
+    // Every code.
+    pub fn every() -> Self
+        ensures { λ r. ⌜ ((i : ℕ) → has (r .bits) i ≡ ltb i codeCount) ⌝ }
+    {
+        CodeSet::FULL
+    }
+
+    // One code; a code above 31 is no code.
+    pub fn one(c: u8) -> Self
+        ensures { λ r. ⌜ ((i : ℕ) → has (r .bits) i ≡ (ltb c codeCount && eqb i c)) ⌝ }
+    {
+        CodeSet::EMPTY.with(c)
+    }
+
+    pub fn has(self, c: u8) -> bool
+        ensures { λ r. ⌜ r ≡ has (self .bits) c ⌝ }
+    {
+        if c < NO_CODE {
+            (self.bits >> c) % 2 == 1
+        } else {
+            false
+        }
+    }
+
+    // A code above 31 changes nothing.
+    pub fn with(mut self, c: u8) -> Self
+        ensures { λ r. ⌜ ((i : ℕ) → has (r .bits) i ≡ (has (self .bits) i || (ltb c codeCount && eqb i c))) ⌝ }
+    {
+        if c < NO_CODE {
+            self.bits |= 1 << c;
+        }
+        self
+    }
+
+    pub fn union(self, other: CodeSet) -> Self
+        ensures { λ r. ⌜ ((i : ℕ) → has (r .bits) i ≡ (has (self .bits) i || has (other .bits) i)) ⌝ }
+    {
+        CodeSet {
+            bits: self.bits | other.bits,
+        }
+    }
+
+    // The codes of both.
+    pub fn meet(self, other: CodeSet) -> Self
+        ensures { λ r. ⌜ ((i : ℕ) → has (r .bits) i ≡ (has (self .bits) i && has (other .bits) i)) ⌝ }
+    {
+        CodeSet {
+            bits: self.bits & other.bits,
+        }
+    }
+
+    pub fn minus(self, other: CodeSet) -> Self
+        ensures { λ r. ⌜ ((i : ℕ) → has (r .bits) i ≡ (has (self .bits) i && not (has (other .bits) i))) ⌝ }
+    {
+        CodeSet {
+            bits: self.bits & !other.bits,
+        }
+    }
+
+    // How many codes.
+    pub fn count(self) -> u32
+        ensures { λ r. ⌜ r ≡ count codeCount (has (self .bits)) ⌝ }
+    {
+        u32::count_ones(self.bits)
+    }
+
+    // The smallest code; the width where there is none.
+    pub fn smallest(self) -> u32
+        ensures { λ r. ⌜ r ≡ least codeCount (has (self .bits)) ⌝ }
+    {
+        u32::trailing_zeros(self.bits)
+    }
+
+    // The smallest code; 0 where there is none.
+    pub fn first(self) -> u8
+        ensures { λ r. ⌜ (r < codeCount) × (r ≡ headOf (listed codeCount (self .bits))) ⌝ }
+    {
+        let c = self.smallest();
+        if c < CodeSet::WIDTH {
+            return c as u8;
+        }
+        0
+    }
+}

@@ -1,5 +1,0 @@
-pub mod BitLaws
-pub mod AnyLaws
-pub mod CountLaws
-pub mod LowestLaws
-pub mod ListedLaws

@@ -1,0 +1,230 @@
+-- When there is a cut, and how many parts and codes it takes. Over any number of codes m.
+use mathlib.Core.Path.{_≡_, refl, sym, _∙_, ap, ap₂, fun-ext}
+use mathlib.Core.Logic.{_⊎_, inl, inr, ⊎-elim}
+use mathlib.Core.List.{List, [], _∷_}
+use mathlib.Core.Bool.{Bool, true, false, cond, not, _&&_}
+use Prim.Native.Nat.{ℕ, zero, suc, _+_, _≤_, _<_}
+use native.Mathlib.Omega.{arith}
+use lib.ListN.{length}
+use borrow.Author.Tests.{eq-eqb, ne-eqb, lt-ltb}
+use Rattle.rules.specs.Words.{any, all, push, keep, from}
+use Rattle.rules.specs.Trees.{Op, choice, sequence, parallel}
+use Rattle.rules.specs.Mining as mining
+use Rattle.rules.specs.Mining.{Rel, Shape, nothing, cut, orElse, reach, components, join, either, together, headOf, place, placeBy, ordered, notBoth, onlyIf, onBorder, isRedo, choiceParts, sequenceParts, parallelParts, redoParts, loopParts}
+use Rattle.rules.specs.Calls.{codeCount}
+use Rattle.rules.proofs.BoolLaws.{bool-cases, clash}
+use Rattle.rules.proofs.ListLaws.{Has, has-any, false-any, keep-all, length-from}
+use Rattle.code_sets.specs.Bits.{has, count, listed}
+use Rattle.graph_rows.specs.declared.Graph.{Graph}
+use Rattle.graph_rows.specs.Edges.{meant}
+use Rattle.graph_rows.proofs.TableLaws.{Table}
+use Rattle.cut_sequence.specs.Order.{inSequence}
+use Rattle.cut_sequence.proofs.SequenceLaws.{sequence-is}
+use Rattle.cut_parts.specs.declared.Parts.{Parts}
+use Rattle.cut_parts.specs.Sets.{listsOf}
+use Rattle.cut_parts.proofs.SetLaws.{number}
+use Rattle.cut_loop.specs.Roomed.{roomed}
+use Rattle.cut_first.specs.declared.Cut.{Cut}
+use Rattle.cut_first.specs.Cuts.{Inside, cutElse, WithoutLoop}
+
+-- ---- how many
+
+length-push : {A : Type 0} (b : Bool) (x : A) (xs : List A) → length (push b x xs) ≤ suc (length xs)
+length-push true x xs = omega arith
+length-push false x xs = omega arith
+
+pub length-keep : {A : Type 0} (p : A → Bool) (xs : List A) → length (keep p xs) ≤ length xs
+length-keep p [] = omega arith
+length-keep p (x ∷ xs) = omega (arith, length-keep p xs, length-push (p x) x (keep p xs))
+
+length-dropped : {A : Type 0} (p : A → Bool) (x : A) (xs : List A) → Has x xs → p x ≡ false → length (keep p xs) < length xs
+length-dropped p x [] m h = absurd m
+length-dropped p x (y ∷ ys) (inl e) h = rw (ap p (sym e) ∙ h) (omega (arith, length-keep p ys))
+length-dropped p x (y ∷ ys) (inr m) h = omega (arith, length-dropped p x ys m h, length-push (p y) y (keep p ys))
+
+-- there are no more components than codes
+pub length-components : (r : Rel) (cs : List ℕ) → length (components r cs) ≤ length cs
+unfolding components join
+length-components r [] = omega arith
+length-components r (x ∷ xs) = omega (arith, length-components r xs, length-keep (λ g. not (any (r x) g)) (components r xs))
+
+pub length-listed : (m x : ℕ) → length (listed m x) ≤ m
+unfolding listed
+length-listed m x = omega (arith, length-keep (has x) (from 0 m), length-from m 0)
+
+-- the components without starts and ends are fewer than the codes: the border has a code, or there is no choice
+fewer : (m : ℕ) (g : mining.Graph) → length (g .codes) ≤ m → 2 ≤ m → length (choiceParts g) < 2 → length (components (either (g .edge)) (keep (λ a. not (onBorder g a)) (g .codes))) < m
+unfolding choiceParts
+fewer m g l two h =
+    ⊎-elim
+    (λ (y : any (onBorder g) (g .codes) ≡ true). let k = has-any (onBorder g) (g .codes) y in
+    omega (arith, length-components (either (g .edge)) (keep (λ a. not (onBorder g a)) (g .codes)), length-dropped (λ a. not (onBorder g a)) (k .0) (g .codes) (k .1) (ap not (k .2))))
+    (λ (y : any (onBorder g) (g .codes) ≡ false).
+    let e : keep (λ a. not (onBorder g a)) (g .codes) ≡ g .codes = keep-all (λ a. not (onBorder g a)) (g .codes) (λ a i. ap not (false-any (onBorder g) a (g .codes) y i)) in
+    rw e (omega arith))
+    (bool-cases (any (onBorder g) (g .codes)))
+
+-- THEOREM: where there is no choice, the redo parts leave room for the body
+pub room : (g : mining.Graph) → length (g .codes) ≤ codeCount → length (choiceParts g) < 2 → roomed g ≡ loopParts g
+unfolding roomed redoParts
+room g l h =
+    let parts : List (List ℕ) = components (either (g .edge)) (keep (λ a. not (onBorder g a)) (g .codes)) in
+    ap (λ (b : Bool). onlyIf b (loopParts g)) (lt-ltb (length (redoParts g)) codeCount (omega (arith, fewer codeCount g l (omega arith) h, length-keep (isRedo g (keep (onBorder g) (g .codes))) parts)))
+
+-- the groups in the order of reach are the parts of the sequence, where every edge is between codes of the set
+pub ordered-parts : (g : Graph) (kept : ℕ) → Table codeCount (g .rows) → Inside g kept → inSequence (g .rows) kept ≡ sequenceParts (meant g kept)
+unfolding meant
+ordered-parts g kept t inside = sequence-is (g .rows) kept t inside (g .starts .bits) (g .ends .bits)
+
+-- ---- a cut needs two parts or more
+
+module _ (o : Op) (s : Shape) where
+  pub cut-here : (ps : List (List ℕ)) → 2 ≤ length ps → cut o ps ≡ orElse o ps s
+  unfolding orElse
+  cut-here [] h = absurd (omega arith)
+  cut-here (p ∷ []) h = absurd (omega arith)
+  cut-here (p ∷ q ∷ ps) h = refl
+
+  pub cut-later : (ps : List (List ℕ)) → length ps < 2 → s ≡ orElse o ps s
+  unfolding orElse
+  cut-later [] h = refl
+  cut-later (p ∷ []) h = refl
+  cut-later (p ∷ q ∷ ps) h = absurd (omega arith)
+
+pub uncut : (o : Op) (s : Shape) (ps : List (List ℕ)) → nothing ≡ orElse o ps s → length ps < 2
+unfolding orElse
+uncut o s [] h = omega arith
+uncut o s (p ∷ []) h = omega arith
+uncut o s (p ∷ q ∷ ps) h = clash (cc)
+
+-- the parts of a cut, found and counted
+module _ (o : Op) (s : Shape) (p : Parts) (ps : List (List ℕ)) (size : length (p .sets) ≡ codeCount) (few : p .n ≤ codeCount) (e : listsOf p ≡ ps) where
+  pub cut-found : 2 ≤ p .n → cut o (listsOf p) ≡ orElse o ps s
+  cut-found h = ap (cut o) e ∙ cut-here o s ps (omega (arith, number p ps size few e))
+
+  pub cut-missed : p .n < 2 → s ≡ orElse o ps s
+  cut-missed h = cut-later o s ps (omega (arith, number p ps size few e))
+
+-- ---- the first of choice, sequence and parallel: the parts of each, as they are looked for
+
+-- parts that were looked for are those of the rule
+pub record Looked (p : Parts) (ps : List (List ℕ)) : Type 0 where
+  pub size : length (p .sets) ≡ codeCount
+  pub few : p .n ≤ codeCount
+  pub is : listsOf p ≡ ps
+
+-- what is left to try after choice
+abbrev afterChoice : mining.Graph → Shape → Shape
+afterChoice g s = orElse sequence (sequenceParts g) (orElse parallel (parallelParts g) s)
+
+module _ (g : Graph) (kept : ℕ) (ch : Parts) (choices : Looked ch (choiceParts (meant g kept))) where
+  pub first-choice : 2 ≤ ch .n → WithoutLoop g kept (record { kind = 3; parts = ch })
+  unfolding cutElse
+  first-choice h =
+      record {
+        few = choices .few;
+        two = λ _. h;
+        shape = λ i s. cut-found choice (afterChoice (meant g kept) s) ch (choiceParts (meant g kept)) (choices .size) (choices .few) (choices .is) h;
+      }
+
+  module _ (none : ch .n < 2) (se : Parts) (sequences : Inside g kept → Looked se (sequenceParts (meant g kept))) (few : se .n ≤ codeCount) where
+    no-choice : (s : Shape) → afterChoice (meant g kept) s ≡ orElse choice (choiceParts (meant g kept)) (afterChoice (meant g kept) s)
+    no-choice s = cut-missed choice (afterChoice (meant g kept) s) ch (choiceParts (meant g kept)) (choices .size) (choices .few) (choices .is) none
+
+    pub first-sequence : 2 ≤ se .n → WithoutLoop g kept (record { kind = 4; parts = se })
+    unfolding cutElse
+    first-sequence h =
+        record {
+          few = few;
+          two = λ _. h;
+          shape = λ i s.
+              let k = sequences i in
+              cut-found sequence (orElse parallel (parallelParts (meant g kept)) s) se (sequenceParts (meant g kept)) (k .size) (k .few) (k .is) h ∙ no-choice s;
+        }
+
+    module _ (later : se .n < 2) (pa : Parts) (parallels : Looked pa (parallelParts (meant g kept))) where
+      no-sequence : Inside g kept → (s : Shape) → orElse parallel (parallelParts (meant g kept)) s ≡ orElse choice (choiceParts (meant g kept)) (afterChoice (meant g kept) s)
+      no-sequence i s =
+          let k = sequences i in
+          cut-missed sequence (orElse parallel (parallelParts (meant g kept)) s) se (sequenceParts (meant g kept)) (k .size) (k .few) (k .is) later ∙ no-choice s
+
+      pub first-parallel : 2 ≤ pa .n → WithoutLoop g kept (record { kind = 5; parts = pa })
+      unfolding cutElse
+      first-parallel h =
+          record {
+            few = parallels .few;
+            two = λ _. h;
+            shape = λ i s. cut-found parallel s pa (parallelParts (meant g kept)) (parallels .size) (parallels .few) (parallels .is) h ∙ no-sequence i s;
+          }
+
+      pub none-of-three : pa .n < 2 → WithoutLoop g kept (record { kind = 0; parts = pa })
+      unfolding cutElse
+      none-of-three h =
+          record {
+            few = parallels .few;
+            two = λ n. absurd (n refl);
+            shape = λ i s. cut-missed parallel s pa (parallelParts (meant g kept)) (parallels .size) (parallels .few) (parallels .is) h ∙ no-sequence i s;
+          }
+
+-- ---- one code alone has no choice, sequence or parallel cut
+
+length-placed : (b : Bool) (p q : List ℕ) (qs later : List (List ℕ)) → length later ≡ suc (length qs) → length (placeBy b p q qs later) ≡ suc (suc (length qs))
+length-placed true p q qs later e = refl
+length-placed false p q qs later e = ap suc e
+
+length-place : (r : Rel) (p : List ℕ) (qs : List (List ℕ)) → length (place r p qs) ≡ suc (length qs)
+length-place r p [] = refl
+length-place r p (q ∷ qs) = length-placed (r (headOf p) (headOf q)) p q qs (place r p qs) (length-place r p qs)
+
+length-ordered : (r : Rel) (ps : List (List ℕ)) → length (ordered r ps) ≡ length ps
+length-ordered r [] = refl
+length-ordered r (p ∷ ps) = length-place r p (ordered r ps) ∙ ap suc (length-ordered r ps)
+
+length-only : (b : Bool) (ps : List (List ℕ)) → length (onlyIf b ps) ≤ length ps
+length-only true ps = omega arith
+length-only false ps = omega arith
+
+-- no cut of the first three
+abbrev pub Later : mining.Graph → Type 0
+Later g = (s : Shape) → s ≡ orElse choice (choiceParts g) (orElse sequence (sequenceParts g) (orElse parallel (parallelParts g) s))
+
+pub later-alone : (g : mining.Graph) → length (g .codes) < 2 → Later g
+unfolding choiceParts sequenceParts parallelParts
+later-alone g l s =
+    let few : (r : Rel) → length (components r (g .codes)) < 2 = λ r. omega (arith, length-components r (g .codes)) in
+    let a = few (either (g .edge)) in
+    let b = few (together (reach g)) in
+    let d = few (notBoth (g .edge)) in
+    let ps : List (List ℕ) = components (notBoth (g .edge)) (g .codes) in
+    cut-later parallel s (parallelParts g) (omega (arith, length-only (all (λ p. any (g .start) p && any (g .end) p) ps) ps))
+    ∙ cut-later sequence (orElse parallel (parallelParts g) s) (sequenceParts g) (omega (arith, length-ordered (reach g) (components (together (reach g)) (g .codes))))
+    ∙ cut-later choice (orElse sequence (sequenceParts g) (orElse parallel (parallelParts g) s)) (choiceParts g) a
+
+pub later-choice : (g : mining.Graph) → Later g → length (choiceParts g) < 2
+later-choice g h = uncut choice (orElse sequence (sequenceParts g) (orElse parallel (parallelParts g) nothing)) (choiceParts g) (h nothing)
+
+-- how many codes a set holds
+counted-from : (p : ℕ → Bool) (n i : ℕ) → length (keep p (from i n)) ≡ count n (λ j. p (i + j))
+unfolding count
+counted-from p zero i = refl
+counted-from p (suc n) i =
+    one (p i) (keep p (from (suc i) n)) ∙ ap₂ (λ (b : Bool) (k : ℕ). cond b 1 0 + k) (ap p (let e : i ≡ i + 0 = omega arith in e))
+    (counted-from p n (suc i) ∙ ap (count n) (fun-ext (λ (j : ℕ). ap p (let e : suc i + j ≡ i + suc j = omega arith in e))))
+  where
+    one : (b : Bool) (xs : List ℕ) → length (push b i xs) ≡ cond b 1 0 + length xs
+    one true xs = omega arith
+    one false xs = omega arith
+
+pub count-listed : (m x : ℕ) → length (listed m x) ≡ count m (has x)
+unfolding listed
+count-listed m x = counted-from (has x) m 0 ∙ ap (count m) (fun-ext (λ (j : ℕ). ap (has x) (let e : 0 + j ≡ j = omega arith in e)))
+
+-- ---- what a cut says
+
+pub cut-none : (c : Cut) → c .kind ≡ 0 → (s : Shape) → cutElse c s ≡ s
+unfolding cutElse
+cut-none c e s = rw (eq-eqb (c .kind) 0 e)
+
+pub cut-some : (c : Cut) → (c .kind ≡ 0 → ⊥) → (s t : Shape) → cutElse c s ≡ cutElse c t
+unfolding cutElse
+cut-some c n s t = rw (ne-eqb (c .kind) 0 n)

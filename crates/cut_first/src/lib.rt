@@ -1,0 +1,65 @@
+// The first cut of a graph: choice, sequence, parallel or loop.
+ghost use Rattle.graph_reverse.specs.Reverse.{Back};
+ghost use Rattle.cut_first.specs.Cuts.{WithoutLoop, CutOf};
+use code_sets::CodeSet;
+use cut_parts::Parts;
+use graph_rows::Graph;
+use rules::CODE_COUNT;
+
+// A cut as the tree kind of its operator, 0 for none, and its parts.
+pub struct Cut {
+    pub kind: u8,
+    pub parts: Parts,
+}
+
+// The first of choice, sequence and parallel.
+fn cut_without_loop(g: Graph, cols: [u32; CODE_COUNT], keep: CodeSet) -> Cut
+    requires { ⌜ Back (g .rows) cols ⌝ }
+    ensures { λ r. ⌜ WithoutLoop g (keep .bits) r ⌝ }
+{
+    let rows = g.rows;
+    let choice = cut_choice::choice_parts(g, cols, keep);
+    if 2 <= choice.n {
+        return Cut {
+            kind: 3,
+            parts: choice,
+        };
+    }
+    let sequence = cut_sequence::sequence_parts(rows, keep);
+    if 2 <= sequence.n {
+        return Cut {
+            kind: 4,
+            parts: sequence,
+        };
+    }
+    let parallel = cut_parallel::parallel_parts(g, cols, keep);
+    if 2 <= parallel.n {
+        return Cut {
+            kind: 5,
+            parts: parallel,
+        };
+    }
+    Cut {
+        kind: 0,
+        parts: parallel,
+    }
+}
+
+// The first cut with two parts or more; fewer than two codes have a loop at most.
+pub fn cut_of(g: Graph, keep: CodeSet) -> Cut
+    ensures { λ r. ⌜ CutOf g (keep .bits) r ⌝ }
+{
+    let rows = g.rows;
+    let cols = graph_reverse::transpose(rows);
+    if 2 <= keep.count() {
+        let cut = cut_without_loop(g, cols, keep);
+        if cut.kind != 0 {
+            return cut;
+        }
+    }
+    let parts = cut_loop::loop_parts(g, cols, keep);
+    if 2 <= parts.n {
+        return Cut { kind: 6, parts };
+    }
+    Cut { kind: 0, parts }
+}

@@ -1,0 +1,67 @@
+// Loop: the body, then the redo parts.
+ghost use mathlib.Core.Path.{_≡_};
+ghost use mathlib.Core.Bool.{not, _&&_};
+ghost use Prim.Native.Nat.{ℕ, _≤_};
+ghost use Rattle.rules.specs.Words.{any, keep};
+ghost use Rattle.rules.specs.Calls.{codeCount};
+ghost use Rattle.code_sets.specs.Bits.{has};
+ghost use Rattle.graph_rows.specs.Edges.{meant};
+ghost use Rattle.graph_reverse.specs.Reverse.{Back};
+ghost use Rattle.cut_parts.specs.Sets.{setsOf, listsOf, meets};
+ghost use Rattle.cut_loop.specs.Roomed.{roomed};
+use code_sets::CodeSet;
+use cut_components::Bond;
+use cut_parts::Parts;
+use graph_rows::Graph;
+use rules::CODE_COUNT;
+
+// The parts with no code of a set.
+fn parts_without(parts: Parts, codes: u32) -> Parts
+    requires { ⌜ parts .n ≤ codeCount ⌝ }
+    ensures { λ r. ⌜ (r .n ≤ parts .n) × (setsOf r ≡ keep (λ p. not (meets codes p)) (setsOf parts)) ⌝ }
+{
+    let n = parts.n;
+    let sets = parts.sets;
+    let mut out = Parts::new();
+    let mut i: usize = 0;
+    while i < n {
+        let part = sets[i];
+        i += 1;
+        if part & codes == 0 {
+            out = out.with(part);
+        }
+    }
+    out
+}
+
+// The codes that stand in no part.
+fn body_of(parts: Parts, keep: u32) -> u32
+    requires { ⌜ parts .n ≤ codeCount ⌝ }
+    ensures { λ r. ⌜ ((c : ℕ) → has r c ≡ (has keep c && not (any (λ p. has p c) (setsOf parts)))) ⌝ }
+{
+    let n = parts.n;
+    let sets = parts.sets;
+    let mut body = keep;
+    let mut i: usize = 0;
+    while i < n {
+        body &= !sets[i];
+        i += 1;
+    }
+    body
+}
+
+// Loop: the body, then the components without starts and ends that are redo parts.
+pub fn loop_parts(g: Graph, cols: [u32; CODE_COUNT], keep: CodeSet) -> Parts
+    requires { ⌜ Back (g .rows) cols ⌝ }
+    ensures { λ r. ⌜ (r .n ≤ codeCount) × (listsOf r ≡ roomed (meant g (keep .bits))) ⌝ }
+{
+    let border = keep.meet(g.starts.union(g.ends));
+    let rest = keep.minus(border);
+    let rows = g.rows;
+    let parts = cut_components::components(rows, cols, Bond::Either, rest);
+    let redos = parts_without(parts, cut_redos::unfit_codes(g, cols, border.bits));
+    if redos.n < CODE_COUNT {
+        return cut_parts::inserted(redos, 0, body_of(redos, keep.bits));
+    }
+    Parts::new()
+}

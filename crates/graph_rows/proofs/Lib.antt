@@ -1,0 +1,2 @@
+pub mod EdgeLaws
+pub mod TableLaws

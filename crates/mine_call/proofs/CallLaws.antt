@@ -1,0 +1,101 @@
+-- The call: its refusals in their order, and what an accepted one leaves.
+use mathlib.Core.Path.{_≡_, sym, _∙_, ap, subst}
+use mathlib.Core.List.{List, _++_, append-nil}
+use mathlib.Core.Bool.{Bool, true, false}
+use Prim.Native.Nat.{ℕ, zero, suc, _+_, _-_, _%_, _≤_, _<_}
+use native.Mathlib.Nat.{zero-add}
+use native.Mathlib.Omega.{arith}
+use lib.ListN.{length, drop, drop-of-length-le}
+use borrow.Author.Tests.{lt-leb, le-leb}
+use Rattle.rules.specs.Words.{zeros}
+use Rattle.rules.specs.Trees.{Tree, size}
+use Rattle.rules.specs.Mining.{Log, mined}
+use Rattle.rules.specs.LogBlock.{sealed, logSized}
+use Rattle.rules.specs.TreeBlock.{entries, treeBlock}
+use Rattle.rules.specs.Calls.{told, after, cleared, logSound, mining, treeOf, MineSays, codeCount}
+use Rattle.rules.specs.declared.Answer.{Answer}
+use Rattle.rules.specs.declared.Answer.the-variants.{Gives, Refused}
+use Rattle.rules.proofs.Occurring.{Below}
+use Rattle.rules.proofs.MinedTree.{mined-fits}
+use Rattle.mine_views.specs.declared.View.{View}
+use Rattle.mine_views.specs.Sublogs.{Sight, shown, sight, sublog, Tight, rootSight}
+use Rattle.mine_views.proofs.TightLaws.{root-tight, root-tree}
+use Rattle.mine_bases.specs.Writing.{laid}
+use Rattle.mine_nodes.specs.Ready.{Ready}
+
+-- ---- the refusals, by the tests that lead to each
+
+module _ (log out work : List ℕ) where
+  module _ (t : Bool) (call : t ≡ logSized log) where
+    pub mining-length : t ≡ false → mining 1 log out work ≡ Refused 1 0
+    unfolding mining
+    mining-length h = simp (sym call ∙ h)
+
+    module _ (whole : t ≡ true) where
+      pub mining-out : length out < 512 → mining 1 log out work ≡ Refused 2 0
+      unfolding mining
+      mining-out h = simp (sym call ∙ whole, lt-leb _ _ h)
+
+      module _ (o : 512 ≤ length out) where
+        pub mining-work : length work < 16384 → mining 1 log out work ≡ Refused 3 0
+        unfolding mining
+        mining-work h = simp (sym call ∙ whole, le-leb _ _ o, lt-leb _ _ h)
+
+        pub mining-log : 16384 ≤ length work → mining 1 log out work ≡ logSound 1 log
+        unfolding mining
+        mining-log h = simp (sym call ∙ whole, le-leb _ _ o, le-leb _ _ h)
+
+  -- a refusal writes nothing
+  pub refused-says : (number place : ℕ) → mining 1 log out work ≡ Refused number place → MineSays 1 log out work (Refused number place) out work
+  refused-says number place e =
+      record {
+        answer = sym (ap (λ (a : Answer). told a (size (treeOf 1 log))) e);
+        block = sym (ap (λ (a : Answer). after a (treeBlock (treeOf 1 log) ++ drop 512 out) out) e);
+        memory = sym (ap (λ (a : Answer). after a (cleared 16384 work) work) e);
+      }
+
+  -- the log's own refusal is handed on
+  pub handed-says : (r : Answer) → mining 1 log out work ≡ logSound 1 log → r ≡ logSound 1 log → (number place : ℕ) → r ≡ Refused number place → MineSays 1 log out work r out work
+  handed-says r m call number place e = rw e (refused-says number place (m ∙ sym call ∙ e))
+
+  pub gives-says : (end : ℕ) → mining 1 log out work ≡ Gives end → (n : ℕ) → n ≡ size (treeOf 1 log) → (out′ work′ : List ℕ) → out′ ≡ treeBlock (treeOf 1 log) ++ drop 512 out → work′ ≡ cleared 16384 work →
+      MineSays 1 log out work (Gives n) out′ work′
+  gives-says end e n f out′ work′ g h =
+      record {
+        answer = ap Gives f ∙ sym (ap (λ (a : Answer). told a (size (treeOf 1 log))) e);
+        block = g ∙ sym (ap (λ (a : Answer). after a (treeBlock (treeOf 1 log) ++ drop 512 out) out) e);
+        memory = h ∙ sym (ap (λ (a : Answer). after a (cleared 16384 work) work) e);
+      }
+
+-- ---- the root
+
+module _ (l : Log) (small : Below codeCount l) (v : View) (sees : sight v ≡ rootSight codeCount l) where
+  pub root-mined : mined codeCount (sublog v l) ≡ mined codeCount l
+  root-mined = ap (λ (s : Sight). mined codeCount (shown s l)) sees ∙ root-tree codeCount l small
+
+  pub root-ready : (tree : List ℕ) → length tree ≡ 512 → Ready l v tree 0
+  root-ready tree long =
+      record {
+        tight = subst (λ (s : Sight). Tight codeCount s l) (sym sees) (root-tight codeCount l small);
+        long = long;
+        room = omega (arith, ap size root-mined, mined-fits codeCount l small (omega arith));
+      }
+
+-- ---- the block
+
+pub clear-whole : (b : List ℕ) → length b ≡ 512 → zeros 512 ++ drop 512 b ≡ zeros 512
+clear-whole b h = ap (λ (z : List ℕ). zeros 512 ++ z) (drop-of-length-le b {i = 512} (omega arith)) ∙ append-nil (zeros 512)
+
+drop-zeros : (k n : ℕ) → drop k (zeros n) ≡ zeros (n - k)
+unfolding zeros
+drop-zeros zero n = let e : n ≡ n - 0 = omega arith in ap zeros e
+drop-zeros (suc k) zero = let e : zero ≡ zero - suc k = omega arith in ap zeros e
+drop-zeros (suc k) (suc n) = let e : n - k ≡ suc n - suc k = omega arith in drop-zeros k n ∙ ap zeros e
+
+-- a tree written into zeros and sealed is the tree's block
+pub block-is : (t u : Tree) (z b new : List ℕ) → t ≡ u → z ≡ zeros 512 → b ≡ laid 0 (entries t) z → new ≡ sealed b → new ≡ treeBlock u
+unfolding treeBlock
+block-is t u z b new e f g h =
+    h ∙ ap sealed (g ∙ ap (λ (x : List ℕ). laid 0 (entries t) x) f
+    ∙ ap (λ (x : List ℕ). entries t ++ x) (ap (λ (k : ℕ). drop k (zeros 512)) (zero-add (length (entries t))) ∙ drop-zeros (length (entries t)) 512))
+    ∙ ap (λ (x : Tree). sealed (entries x ++ zeros (512 - length (entries x)))) e

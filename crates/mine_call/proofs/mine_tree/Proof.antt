@@ -1,0 +1,56 @@
+use mathlib.Core.Path.{ap, _∙_}
+use native.Mathlib.Omega.{arith}
+use lib.ListN.{length}
+use Rattle.rules.specs.Trees.{size}
+use Rattle.rules.specs.LogBlock.{logEpisodes}
+use Rattle.rules.specs.Calls.{codeCount}
+use Rattle.rules.proofs.AnswerLaws.{given-is}
+use Rattle.rules.proofs.Occurring.{Below}
+use Rattle.log_episodes.proofs.EpisodeLaws.{log-codes}
+use native.Mathlib.Nat.{zero-add}
+use Rattle.rules.proofs.TreeBlockLaws.{zeros-length}
+use Rattle.mine_call.proofs.CallLaws.{root-ready, root-mined, clear-whole, block-is}
+use borrow.Author.Needs.{needs}
+use Rattle.mine_call.proofs.mine_tree.Statement.{statement}
+use Rattle.mine_call.proofs.mine_tree.Tie as tie
+
+clear-requires : tie.Need-clear-requires
+clear-requires c κs = search needs
+
+root-of-requires : tie.Need-root-of-requires
+root-of-requires c κs = search needs
+
+mine-node-requires : tie.Need-mine-node-requires
+mine-node-requires c κs =
+    let a = c .before .before .before .before .before .before .before .before .args in
+    let l = logEpisodes 1 (a .log .now) in
+    let sound = given-is _ (c .before .before .before .before .before .before .before .before .pre .1) in
+    let small : Below codeCount l = log-codes 1 (a .log .now) (sound .0) (omega arith) (sound .1) in
+    let v = c .before .root-of in
+    let zeroed = c .before .before .before .before .clear in
+    (c .before .before .before .before .before .before .before .before .pre .1, root-ready l small (v .result) (v .ensures) (zeroed .last .0) (ap length (zeroed .ensures ∙ clear-whole (a .tree .now) (c .before .before .before .before .before .before .before .before .pre .0)) ∙ zeros-length 512))
+
+seal-requires : tie.Need-seal-requires
+seal-requires c κs = search needs
+
+same-length : tie.Need-same-length
+same-length c = search needs
+
+returns : tie.Need-returns
+returns c =
+    let a = c .before .before .before .before .before .before .before .before .before .before .before .before .before .before .before .args in
+    let l = logEpisodes 1 (a .log .now) in
+    let sound = given-is _ (c .before .before .before .before .before .before .before .before .before .before .before .before .before .before .before .pre .1) in
+    let small : Below codeCount l = log-codes 1 (a .log .now) (sound .0) (omega arith) (sound .1) in
+    let v = c .before .before .before .before .before .before .before .before .root-of in
+    let zeroed = c .before .before .before .before .before .before .before .before .before .before .before .clear in
+    let wrote = c .before .before .before .before .before .before .mine-node in
+    let same = root-mined l small (v .result) (v .ensures) in (
+      wrote .ensures .next ∙ zero-add _ ∙ ap size same,
+      block-is _ _ (zeroed .last .0) (wrote .last .1 .0) (c .before .before .seal .last .0) same (zeroed .ensures ∙ clear-whole (a .tree .now) (c .before .before .before .before .before .before .before .before .before .before .before .before .before .before .before .pre .0)) (wrote .ensures .block) (c .before .before .seal .ensures),
+    )
+
+pub mine-tree-spec : {M : Type 1} → statement M
+mine-tree-spec =
+    tie.close
+    (tie.spec clear-requires root-of-requires mine-node-requires seal-requires same-length returns)

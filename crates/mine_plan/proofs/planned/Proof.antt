@@ -1,0 +1,69 @@
+use Rattle.rules.specs.LogBlock.{logEpisodes}
+use Rattle.graph_rows.proofs.TableLaws.{owned-field}
+use Rattle.mine_plan.proofs.PlannedLaws.{planned-silent, planned-flower, planned-leaf, planned-cut}
+use borrow.Author.Needs.{needs}
+use Rattle.mine_plan.proofs.planned.Statement.{statement}
+use Rattle.mine_plan.proofs.planned.Tie as tie
+
+uncut-requires : tie.Need-uncut-requires
+uncut-requires c κs = search needs
+
+returns : tie.Need-returns
+returns c =
+    let a = c .before .before .before .before .before .args in
+    planned-silent (logEpisodes 1 (a .log .now)) (a .v) (c .uncut .result) (c .uncut .ensures) (c .before .if1 .taken)
+
+uncut-requires-2 : tie.Need-uncut-requires-2
+uncut-requires-2 c κs = search needs
+
+returns-2 : tie.Need-returns-2
+returns-2 c =
+    let a = c .before .before .before .before .before .before .args in
+    planned-flower (logEpisodes 1 (a .log .now)) (a .v) (c .uncut2 .result) (c .uncut2 .ensures) (search needs) (c .before .before .if1 .left) (c .before .if2 .taken)
+
+graph-of-requires : tie.Need-graph-of-requires
+graph-of-requires c κs = search needs
+
+alone-requires : tie.Need-alone-requires
+alone-requires c κs = search needs
+
+uncut-requires-3 : tie.Need-uncut-requires-3
+uncut-requires-3 c κs = search needs
+
+returns-3 : tie.Need-returns-3
+returns-3 c =
+    let a = c .before .before .before .before .before .before .before .before .before .args in
+    let g = c .before .before .before .graph-of in
+    let one = c .before .before .alone in
+    planned-leaf (logEpisodes 1 (a .log .now)) (a .v) (search needs) (c .before .before .before .before .before .if1 .left) (c .before .before .before .before .if2 .left) (g .result) (g .ensures) (one .result) (one .ensures) (c .before .if3 .taken) (c .uncut3 .result) (c .uncut3 .ensures)
+
+cut-of-requires : tie.Need-cut-of-requires
+cut-of-requires c κs = search needs
+
+cut-plan-requires : tie.Need-cut-plan-requires
+cut-plan-requires c κs = (search needs, c .before .cut-of .ensures .few)
+
+returns-4 : tie.Need-returns-4
+returns-4 c =
+    let a = c .before .before .before .before .before .before .before .before .before .before .before .args in
+    let g = c .before .before .before .before .before .graph-of in
+    let one = c .before .before .before .before .alone in
+    let r = c .before .before .cut-of in
+    planned-cut (logEpisodes 1 (a .log .now)) (a .v) (search (needs, c .before .before .before .before .before .before .before .before .struct-known .given)) (c .before .before .before .before .before .before .before .if1 .left) (c .before .before .before .before .before .before .if2 .left) (g .result) (g .ensures) (one .result) (one .ensures) (c .before .before .before .if3 .left) (r .result) (r .ensures)
+    (owned-field (r .result .parts .sets) _ (r .ok .1 .1 .1 .0 .1 .1 .1 .0) .size) (c .cut-plan .result) (c .cut-plan .ensures)
+
+pub planned-spec : {M : Type 1} → statement M
+planned-spec =
+    tie.close
+    (tie.spec
+    uncut-requires
+    returns
+    uncut-requires-2
+    returns-2
+    graph-of-requires
+    alone-requires
+    uncut-requires-3
+    returns-3
+    cut-of-requires
+    cut-plan-requires
+    returns-4)

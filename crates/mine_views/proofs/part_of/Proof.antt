@@ -1,0 +1,28 @@
+use mathlib.Core.Path.{ap, _∙_}
+use mathlib.Core.Bool.{_||_}
+use Rattle.code_sets.specs.Bits.{has}
+use Rattle.mine_views.specs.Sublogs.{sight}
+use Rattle.mine_views.proofs.KindLaws.{loop-sight, plain-sight}
+use borrow.Author.Needs.{needs}
+use Rattle.mine_views.proofs.part_of.Statement.{statement}
+use Rattle.mine_views.proofs.part_of.Tie as tie
+
+minus-requires : tie.Need-minus-requires
+minus-requires c κs = search needs
+
+union-requires : tie.Need-union-requires
+union-requires c κs = search needs
+
+returns : tie.Need-returns
+returns c o l e f =
+    let a = c .before .before .before .before .before .args in
+    loop-sight (a .part .bits) (search needs) l (sight (a .v)) (a .bare) (a .kind) o e f (c .before .before .if1 .taken) (has (c .union .result .bits))
+    (λ x. c .union .ensures x ∙ ap (_||_ (has (a .v .breaks .bits) x)) (c .before .minus .ensures x))
+
+returns-2 : tie.Need-returns-2
+returns-2 c o l e f =
+    let a = c .before .before .before .args in
+    plain-sight (a .part .bits) (search needs) l (sight (a .v)) (a .bare) (a .kind) o e f (c .if1 .left)
+
+pub part-of-spec : {M : Type 1} → statement M
+part-of-spec = tie.close (tie.spec minus-requires union-requires returns returns-2)
