@@ -39,6 +39,9 @@ sub-c c = search needs
 cast-k : tie.Need-cast-k Inv-loop μ-loop
 cast-k c = search needs
 
+cast-if1 : tie.Need-cast-if1 Inv-loop μ-loop
+cast-if1 c = search needs
+
 shr-if1 : tie.Need-shr-if1 Inv-loop μ-loop
 shr-if1 c = search needs
 
@@ -109,6 +112,7 @@ components-spec =
     loop-holds
     sub-c
     cast-k
+    cast-if1
     shr-if1
     mul-bonds
     array-read-bonds

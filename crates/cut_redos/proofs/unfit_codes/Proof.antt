@@ -40,6 +40,9 @@ array-read-unfit-2 c = search needs
 unfit-requires : tie.Need-unfit-requires Inv-loop μ-loop
 unfit-requires c κs = search needs
 
+cast-set : tie.Need-cast-set Inv-loop μ-loop
+cast-set c = search needs
+
 shl-set : tie.Need-shl-set Inv-loop μ-loop
 shl-set c = search needs
 
@@ -78,6 +81,7 @@ unfit-codes-spec =
     mul-unfit-2
     array-read-unfit-2
     unfit-requires
+    cast-set
     shl-set
     add-c
     loop-less

@@ -16,10 +16,10 @@ abbrev byWay : List ℕ → ℕ → ℕ → ℕ → Type 0
 byWay rows k j v = (b : ℕ) → has v b ≡ (edgeOf rows j b || (edgeOf rows j k && edgeOf rows k b))
 
 abbrev Inv-loop : tie.InvT-loop
-Inv-loop k by out₀ i₀ out i = (i ≤ codeCount) × Filled (byWay out₀ k) out₀ i out
+Inv-loop k at by out₀ i₀ out i = (i ≤ codeCount) × Filled (byWay out₀ k) out₀ i out
 
 abbrev μ-loop : tie.MeasureT-loop
-μ-loop k by out₀ i₀ out i = codeCount - i
+μ-loop k at by out₀ i₀ out i = codeCount - i
 
 mul-by : tie.Need-mul-by Inv-loop μ-loop
 mul-by c = search needs

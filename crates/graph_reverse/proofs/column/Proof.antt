@@ -33,6 +33,9 @@ array-read-set c = search needs
 shr-set : tie.Need-shr-set Inv-loop μ-loop
 shr-set c = search needs
 
+cast-set : tie.Need-cast-set Inv-loop μ-loop
+cast-set c = search needs
+
 shl-set : tie.Need-shl-set Inv-loop μ-loop
 shl-set c = search needs
 
@@ -65,6 +68,7 @@ column-spec =
     mul-set
     array-read-set
     shr-set
+    cast-set
     shl-set
     add-a
     loop-less
