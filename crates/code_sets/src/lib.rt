@@ -8,8 +8,11 @@ ghost use Rattle.rules.specs.Mining.{headOf};
 ghost use Rattle.rules.specs.Calls.{codeCount};
 ghost use Rattle.code_sets.specs.Bits.{has, count, least, listed};
 
+// A bit for each code.
+pub type Bits = u32;
+
 pub struct CodeSet {
-    pub bits: u32,
+    pub bits: Bits,
 }
 
 impl CodeSet {
@@ -17,7 +20,7 @@ impl CodeSet {
     pub const WIDTH: u32 = 32;
 
     // The bits of every code.
-    pub const ALL: u32 = 4294967295;
+    pub const ALL: Bits = 4294967295;
 
     pub const EMPTY: CodeSet = CodeSet { bits: 0 };
 
@@ -37,7 +40,7 @@ impl CodeSet {
         CodeSet::FULL
     }
 
-    // One code; a code above 31 is no code.
+    // One code; what is above the largest is none.
     pub fn one(c: u8) -> Self
         ensures { λ r. ⌜ ((i : ℕ) → has (r .bits) i ≡ (ltb c codeCount && eqb i c)) ⌝ }
     {
@@ -54,7 +57,7 @@ impl CodeSet {
         }
     }
 
-    // A code above 31 changes nothing.
+    // What is above the largest code changes nothing.
     pub fn with(mut self, c: u8) -> Self
         ensures { λ r. ⌜ ((i : ℕ) → has (r .bits) i ≡ (has (self .bits) i || (ltb c codeCount && eqb i c))) ⌝ }
     {

@@ -6,6 +6,7 @@ ghost use Rattle.rules.specs.Calls.{codeCount};
 ghost use Rattle.graph_rows.specs.Edges.{meant};
 ghost use Rattle.graph_reverse.specs.Reverse.{Back};
 ghost use Rattle.cut_parts.specs.Sets.{listsOf};
+use code_sets::Bits;
 use code_sets::CodeSet;
 use cut_components::Bond;
 use cut_parts::Parts;
@@ -13,7 +14,7 @@ use graph_rows::Graph;
 use rules::CODE_COUNT;
 
 // Choice: the connected components, edge directions ignored.
-pub fn choice_parts(g: Graph, cols: [u32; CODE_COUNT], keep: CodeSet) -> Parts
+pub fn choice_parts(g: Graph, cols: [Bits; CODE_COUNT], keep: CodeSet) -> Parts
     requires { ⌜ Back (g .rows) cols ⌝ }
     ensures { λ r. ⌜ (r .n ≤ codeCount) × (listsOf r ≡ choiceParts (meant g (keep .bits))) ⌝ }
 {

@@ -6,6 +6,7 @@ ghost use Rattle.rules.specs.Calls.{codeCount};
 ghost use Rattle.code_sets.specs.Bits.{has};
 ghost use Rattle.cut_parts.specs.Sets.{setsOf};
 ghost use Rattle.cut_components.specs.Joined.{joinOn, bonded, Components};
+use code_sets::Bits;
 use code_sets::CodeSet;
 use cut_parts::Parts;
 use rules::CODE_COUNT;
@@ -19,7 +20,7 @@ pub enum Bond {
 }
 
 // The codes that a code is joined to, by its edges out and in.
-fn bonds(bond: Bond, out: u32, into: u32) -> u32
+fn bonds(bond: Bond, out: Bits, into: Bits) -> Bits
     ensures { λ r. ⌜ ((b : ℕ) → b < codeCount → has r b ≡ bonded bond (has out b) (has into b)) ⌝ }
 {
     match bond {
@@ -30,13 +31,13 @@ fn bonds(bond: Bond, out: u32, into: u32) -> u32
 }
 
 // A code put to parts: those that its row meets become one with it, before the others.
-fn joined(parts: Parts, row: u32, code: u8) -> Parts
+fn joined(parts: Parts, row: Bits, code: u8) -> Parts
     requires { ⌜ (parts .n < codeCount) × (code < codeCount) ⌝ }
     ensures { λ r. ⌜ (r .n ≤ parts .n + 1) × (setsOf r ≡ joinOn row (2 ^ code) [] (setsOf parts)) ⌝ }
 {
     let n = parts.n;
     let sets = parts.sets;
-    let mut whole = 1u32 << code;
+    let mut whole: Bits = 1 << code;
     let mut out = Parts::new().with(0);
     let mut i: usize = 0;
     while i < n {
@@ -54,8 +55,8 @@ fn joined(parts: Parts, row: u32, code: u8) -> Parts
 
 // The components of a relation within a set of codes, by their smallest codes.
 pub fn components(
-    rows: [u32; CODE_COUNT],
-    cols: [u32; CODE_COUNT],
+    rows: [Bits; CODE_COUNT],
+    cols: [Bits; CODE_COUNT],
     bond: Bond,
     within: CodeSet,
 ) -> Parts

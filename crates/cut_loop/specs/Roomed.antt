@@ -1,4 +1,4 @@
--- The parts of a loop, where 32 places are enough for them.
+-- The parts of a loop, where a place for each code is enough for them.
 use mathlib.Core.List.{List}
 use Prim.Native.Nat.{ℕ}
 use lib.Dec.{ltb}

@@ -9,6 +9,7 @@ ghost use Rattle.graph_rows.specs.Edges.{meant};
 ghost use Rattle.graph_reverse.specs.Reverse.{Back};
 ghost use Rattle.cut_parts.specs.Sets.{setsOf, listsOf, meets};
 ghost use Rattle.cut_loop.specs.Roomed.{roomed};
+use code_sets::Bits;
 use code_sets::CodeSet;
 use cut_components::Bond;
 use cut_parts::Parts;
@@ -16,7 +17,7 @@ use graph_rows::Graph;
 use rules::CODE_COUNT;
 
 // The parts with no code of a set.
-fn parts_without(parts: Parts, codes: u32) -> Parts
+fn parts_without(parts: Parts, codes: Bits) -> Parts
     requires { ⌜ parts .n ≤ codeCount ⌝ }
     ensures { λ r. ⌜ (r .n ≤ parts .n) × (setsOf r ≡ keep (λ p. not (meets codes p)) (setsOf parts)) ⌝ }
 {
@@ -35,7 +36,7 @@ fn parts_without(parts: Parts, codes: u32) -> Parts
 }
 
 // The codes that stand in no part.
-fn body_of(parts: Parts, keep: u32) -> u32
+fn body_of(parts: Parts, keep: Bits) -> Bits
     requires { ⌜ parts .n ≤ codeCount ⌝ }
     ensures { λ r. ⌜ ((c : ℕ) → has r c ≡ (has keep c && not (any (λ p. has p c) (setsOf parts)))) ⌝ }
 {
@@ -51,7 +52,7 @@ fn body_of(parts: Parts, keep: u32) -> u32
 }
 
 // Loop: the body, then the components without starts and ends that are redo parts.
-pub fn loop_parts(g: Graph, cols: [u32; CODE_COUNT], keep: CodeSet) -> Parts
+pub fn loop_parts(g: Graph, cols: [Bits; CODE_COUNT], keep: CodeSet) -> Parts
     requires { ⌜ Back (g .rows) cols ⌝ }
     ensures { λ r. ⌜ (r .n ≤ codeCount) × (listsOf r ≡ roomed (meant g (keep .bits))) ⌝ }
 {

@@ -8,6 +8,7 @@ ghost use Rattle.rules.specs.Calls.{codeCount};
 ghost use Rattle.graph_rows.specs.Edges.{meant};
 ghost use Rattle.graph_reverse.specs.Reverse.{Back};
 ghost use Rattle.cut_parts.specs.Sets.{setsOf, listsOf, meets};
+use code_sets::Bits;
 use code_sets::CodeSet;
 use cut_components::Bond;
 use cut_parts::Parts;
@@ -15,7 +16,7 @@ use graph_rows::Graph;
 use rules::CODE_COUNT;
 
 // Has every part a start and an end?
-fn all_meet(parts: Parts, starts: u32, ends: u32) -> bool
+fn all_meet(parts: Parts, starts: Bits, ends: Bits) -> bool
     requires { ⌜ parts .n ≤ codeCount ⌝ }
     ensures { λ r. ⌜ r ≡ all (λ p. meets starts p && meets ends p) (setsOf parts) ⌝ }
 {
@@ -36,7 +37,7 @@ fn all_meet(parts: Parts, starts: u32, ends: u32) -> bool
 }
 
 // Parallel: the components of codes joined unless both edges exist; no part if any lacks a start or an end.
-pub fn parallel_parts(g: Graph, cols: [u32; CODE_COUNT], keep: CodeSet) -> Parts
+pub fn parallel_parts(g: Graph, cols: [Bits; CODE_COUNT], keep: CodeSet) -> Parts
     requires { ⌜ Back (g .rows) cols ⌝ }
     ensures { λ r. ⌜ (r .n ≤ codeCount) × (listsOf r ≡ parallelParts (meant g (keep .bits))) ⌝ }
 {

@@ -1,4 +1,5 @@
 // Some sets of codes in order, as the parts of a cut.
+use code_sets::Bits;
 use rules::CODE_COUNT;
 ghost use mathlib.Core.Path.{_≡_};
 ghost use mathlib.Core.List.{[], _∷_, _++_};
@@ -10,7 +11,7 @@ ghost use Rattle.cut_parts.specs.Sets.{setsOf};
 // Some sets of codes in order, the first n of `sets`.
 pub struct Parts {
     pub n: usize,
-    pub sets: [u32; CODE_COUNT],
+    pub sets: [Bits; CODE_COUNT],
 }
 
 impl Parts {
@@ -20,12 +21,12 @@ impl Parts {
     {
         Parts {
             n: 0,
-            sets: [0u32; CODE_COUNT],
+            sets: [0; CODE_COUNT],
         }
     }
 
     // One more part, after the others.
-    pub fn with(mut self, part: u32) -> Self
+    pub fn with(mut self, part: Bits) -> Self
         requires { ⌜ self .n < codeCount ⌝ }
         ensures { λ r. ⌜ (r .n ≡ self .n + 1) × (setsOf r ≡ setsOf self ++ (part ∷ [])) ⌝ }
     {
@@ -37,7 +38,7 @@ impl Parts {
 }
 
 // A part put at a place, the later ones one place on.
-pub fn inserted(parts: Parts, at: usize, part: u32) -> Parts
+pub fn inserted(parts: Parts, at: usize, part: Bits) -> Parts
     requires { ⌜ (parts .n < codeCount) × (at ≤ parts .n) ⌝ }
     ensures { λ r. ⌜ (r .n ≡ parts .n + 1) × (setsOf r ≡ take at (setsOf parts) ++ (part ∷ drop at (setsOf parts))) ⌝ }
 {

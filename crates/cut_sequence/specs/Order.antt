@@ -12,7 +12,7 @@ abbrev pub placeOn : ℕ → ℕ → ℕ → List ℕ → List ℕ
 placeOn m row p [] = p ∷ []
 placeOn m row p (q ∷ qs) = pick (has row (headOf (listed m q))) (p ∷ q ∷ qs) (q ∷ placeOn m row p qs)
 
--- reach among all 32 codes
+-- reach among all codes
 unfoldable pub reached : List ℕ → Rel
 reached rows = through (from 0 codeCount) (from 0 codeCount) (edgeOf rows)
 

@@ -8,13 +8,14 @@ ghost use Rattle.rules.specs.Calls.{codeCount};
 ghost use Rattle.graph_rows.specs.Edges.{edgeOf};
 ghost use Rattle.cut_parts.specs.Sets.{setsOf, listsOf};
 ghost use Rattle.cut_sequence.specs.Order.{placeOn, inSequence};
+use code_sets::Bits;
 use code_sets::CodeSet;
 use cut_components::Bond;
 use cut_parts::Parts;
 use rules::CODE_COUNT;
 
 // The place of the first part whose smallest code is in the row; past the last where there is none.
-fn first_reached(parts: Parts, row: u32) -> usize
+fn first_reached(parts: Parts, row: Bits) -> usize
     requires { ⌜ parts .n ≤ codeCount ⌝ }
     ensures { λ r. ⌜ (r ≤ parts .n) × ((p : ℕ) → placeOn codeCount row p (setsOf parts) ≡ take r (setsOf parts) ++ (p ∷ drop r (setsOf parts))) ⌝ }
 {
@@ -33,7 +34,7 @@ fn first_reached(parts: Parts, row: u32) -> usize
 }
 
 // The parts in the order of a relation, each before the first that it reaches.
-fn in_order(parts: Parts, to: [u32; CODE_COUNT]) -> Parts
+fn in_order(parts: Parts, to: [Bits; CODE_COUNT]) -> Parts
     requires { ⌜ parts .n ≤ codeCount ⌝ }
     ensures { λ r. ⌜ (r .n ≡ parts .n) × (listsOf r ≡ ordered (edgeOf to) (listsOf parts)) ⌝ }
 {
@@ -52,7 +53,7 @@ fn in_order(parts: Parts, to: [u32; CODE_COUNT]) -> Parts
 }
 
 // Sequence: the groups of codes that belong together, in the order of reach.
-pub fn sequence_parts(rows: [u32; CODE_COUNT], keep: CodeSet) -> Parts
+pub fn sequence_parts(rows: [Bits; CODE_COUNT], keep: CodeSet) -> Parts
     ensures { λ r. ⌜ (r .n ≤ codeCount) × (listsOf r ≡ inSequence rows (keep .bits)) ⌝ }
 {
     let to = graph_reach::reach(rows);

@@ -1,4 +1,5 @@
 // Who reaches whom, by tables of rows by value.
+use code_sets::Bits;
 use rules::CODE_COUNT;
 use rules::NO_CODE;
 ghost use mathlib.Core.Path.{_≡_};
@@ -11,7 +12,7 @@ ghost use Rattle.code_sets.specs.Bits.{has};
 ghost use Rattle.graph_rows.specs.Edges.{edgeOf};
 
 // A row with the row of k, where it has k.
-fn stepped(row: u32, by: u32, k: u8) -> u32
+fn stepped(row: Bits, by: Bits, k: u8) -> Bits
     requires { ⌜ k < codeCount ⌝ }
     ensures { λ r. ⌜ ((b : ℕ) → has r b ≡ (has row b || (has row k && has by b))) ⌝ }
 {
@@ -19,7 +20,7 @@ fn stepped(row: u32, by: u32, k: u8) -> u32
 }
 
 // Every row by way of the code k.
-fn by_way(rows: [u32; CODE_COUNT], k: u8) -> [u32; CODE_COUNT]
+fn by_way(rows: [Bits; CODE_COUNT], k: u8) -> [Bits; CODE_COUNT]
     requires { ⌜ k < codeCount ⌝ }
     ensures { λ r. ⌜ ((a b : ℕ) → edgeOf r a b ≡ (edgeOf rows a b || (edgeOf rows a k && edgeOf rows k b))) ⌝ }
 {
@@ -35,7 +36,7 @@ fn by_way(rows: [u32; CODE_COUNT], k: u8) -> [u32; CODE_COUNT]
 }
 
 // Who reaches whom by one edge or more.
-pub fn reach(rows: [u32; CODE_COUNT]) -> [u32; CODE_COUNT]
+pub fn reach(rows: [Bits; CODE_COUNT]) -> [Bits; CODE_COUNT]
     ensures { λ r. ⌜ ((a b : ℕ) → edgeOf r a b ≡ through (from 0 codeCount) (from 0 codeCount) (edgeOf rows) a b) ⌝ }
 {
     let mut out = rows;

@@ -1,4 +1,5 @@
 // Every edge of a table the other way.
+use code_sets::Bits;
 use rules::CODE_COUNT;
 use rules::NO_CODE;
 ghost use mathlib.Core.Path.{_≡_};
@@ -9,11 +10,11 @@ ghost use Rattle.graph_rows.specs.Edges.{edgeOf};
 ghost use Rattle.graph_reverse.specs.Reverse.{Back};
 
 // The codes whose row has c.
-fn column(rows: [u32; CODE_COUNT], c: u8) -> u32
+fn column(rows: [Bits; CODE_COUNT], c: u8) -> Bits
     requires { ⌜ c < codeCount ⌝ }
     ensures { λ r. ⌜ ((a : ℕ) → has r a ≡ edgeOf rows a c) ⌝ }
 {
-    let mut set: u32 = 0;
+    let mut set: Bits = 0;
     let mut a: u8 = 0;
     while a < NO_CODE {
         let i = a as usize;
@@ -24,10 +25,10 @@ fn column(rows: [u32; CODE_COUNT], c: u8) -> u32
 }
 
 // Every edge the other way.
-pub fn transpose(rows: [u32; CODE_COUNT]) -> [u32; CODE_COUNT]
+pub fn transpose(rows: [Bits; CODE_COUNT]) -> [Bits; CODE_COUNT]
     ensures { λ r. ⌜ Back rows r ⌝ }
 {
-    let mut out = [0u32; CODE_COUNT];
+    let mut out: [Bits; CODE_COUNT] = [0; CODE_COUNT];
     let mut c: u8 = 0;
     while c < NO_CODE {
         let i = c as usize;

@@ -30,7 +30,7 @@ pub record Bare (r : Graph) : Type 0 where
   pub starts : (i : ℕ) → has (r .starts .bits) i ≡ false
   pub ends : (i : ℕ) → has (r .ends .bits) i ≡ false
 
--- the pair a b and no other pair; none where a code is above 31
+-- the pair a b and no other pair; none where a code is above the largest
 pub record Noted (g : Graph) (a b : ℕ) (r : Graph) : Type 0 where
   pub edges : (i j : ℕ) → edgeOf (r .rows) i j ≡ (edgeOf (g .rows) i j || (ltb a codeCount && ltb b codeCount && eqb i a && eqb j b))
   pub starts : r .starts ≡ g .starts

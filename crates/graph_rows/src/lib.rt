@@ -1,11 +1,12 @@
 // The graph of a log by value: a row of codes for each code, and the first and last codes.
 ghost use Rattle.graph_rows.specs.Edges.{Bare, Noted, Started, Ended};
+use code_sets::Bits;
 use code_sets::CodeSet;
 use rules::CODE_COUNT;
 use rules::NO_CODE;
 
 pub struct Graph {
-    pub rows: [u32; CODE_COUNT],
+    pub rows: [Bits; CODE_COUNT],
     pub starts: CodeSet,
     pub ends: CodeSet,
 }
@@ -16,7 +17,7 @@ impl Graph {
         ensures { λ r. ⌜ Bare r ⌝ }
     {
         Graph {
-            rows: [0u32; CODE_COUNT],
+            rows: [0; CODE_COUNT],
             starts: CodeSet::EMPTY,
             ends: CodeSet::EMPTY,
         }

@@ -1,4 +1,5 @@
 // The graph of a view's sublog. Each pass hands a record's codes on as a part of the log.
+use code_sets::Bits;
 use code_sets::CodeSet;
 use graph_rows::Graph;
 use mine_views::View;
@@ -29,7 +30,7 @@ fn end_noted(ends: CodeSet, last: u8) -> bool
 }
 
 // Has a graph everything that one record's codes add? Most records add nothing; `known` are the codes that may come next and add nothing.
-fn nothing_new(codes: &[u8], v: View, rows: &[u32], starts: CodeSet, ends: CodeSet) -> bool
+fn nothing_new(codes: &[u8], v: View, rows: &[Bits], starts: CodeSet, ends: CodeSet) -> bool
     requires { ⌜ length (now rows) ≡ codeCount ⌝ }
     ensures { λ r. ⌜ (r ≡ true → withPieces (sight v) (meant (graphOf (now (rows .entry)) starts ends) (v .keep .bits)) (now (codes .entry) ∷ []) ≡ meant (graphOf (now (rows .entry)) starts ends) (v .keep .bits)) ⌝ }
 {

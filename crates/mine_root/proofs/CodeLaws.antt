@@ -2,7 +2,7 @@
 use mathlib.Core.Path.{_≡_, refl, sym, _∙_, ap}
 use mathlib.Core.List.{List, [], _∷_}
 use mathlib.Core.Bool.{Bool, true, false, _&&_, _||_, true≢false, false≢true}
-use Prim.Native.Nat.{ℕ, _+_, _<_, _≤_}
+use Prim.Native.Nat.{ℕ, _+_, _<_, _≤_, _-_, _^_}
 use native.Mathlib.Numerals.{add-one}
 use lib.Dec.{eqb, ltb}
 use lib.ListN.{length, getD, drop, drop-of-length-le}
@@ -45,7 +45,7 @@ module _ (codes : List ℕ) (i : ℕ) where
         by false false = refl
 
 -- every code has been met
-pub codes-full : (k : ℕ) (codes : List ℕ) → k ≡ 4294967295 → (j : ℕ) → has k j ≡ (has k j || (ltb j codeCount && mem j codes))
+pub codes-full : (k : ℕ) (codes : List ℕ) → k ≡ 2 ^ codeCount - 1 → (j : ℕ) → has k j ≡ (has k j || (ltb j codeCount && mem j codes))
 codes-full k codes e j =
     let f : has k j ≡ ltb j codeCount = ap (λ (x : ℕ). has x j) e ∙ has-every codeCount j in
     f ∙ by (ltb j codeCount) (mem j codes) ∙ ap (λ (t : Bool). t || (ltb j codeCount && mem j codes)) (sym f)

@@ -48,7 +48,7 @@ abbrev pub addsNothing : ℕ → ℕ → ℕ → ℕ → ℕ → ℕ → Bool
 addsNothing kept row starts ends last c =
     pick (has kept c) (pick (ltb last codeCount) (has row c) (has starts c)) (pick (ltb last codeCount) (has ends last) true)
 
--- the last code of the open sub-episode after one more code, 32 where none is open
+-- the last code of the open sub-episode after one more code, no code where none is open
 abbrev pub lastAfter : Bool → ℕ → ℕ
 lastAfter event c = pick event c codeCount
 

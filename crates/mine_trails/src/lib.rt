@@ -13,7 +13,7 @@ ghost use Rattle.graph_rows.specs.Edges.{meant};
 ghost use Rattle.mine_views.specs.Sublogs.{Walk, stepBy, done, sight};
 ghost use Rattle.mine_trails.specs.Growing.{joined, withPieces, trailed, addsNothing, lastAfter};
 
-// A graph while an episode is walked: the last code of the open sub-episode, 32 where none is open.
+// A graph while an episode is walked: the last code of the open sub-episode, no code where none is open.
 pub struct Trail {
     pub graph: Graph,
     pub last: u8,
