@@ -1,11 +1,18 @@
 // Entries of a tree block: writing one, and what one tells by itself.
 use code_sets::CodeSet;
+use rules::ACTIVITY;
+use rules::CHOICE;
 use rules::ENTRY_COUNT;
+use rules::LOOP;
 use rules::NO_CODE;
+use rules::Operator;
+use rules::PARALLEL;
+use rules::SEQUENCE;
+use rules::SILENT;
 ghost use mathlib.Core.Path.{_≡_};
 ghost use Prim.Native.Nat.{_≤_, _<_};
 ghost use lib.ListN.{length};
-ghost use Rattle.rules.specs.TreeBlock.{silentRule, leafRule};
+ghost use Rattle.rules.specs.TreeBlock.{opOf, kindOf, silentRule, leafRule};
 ghost use Rattle.rules.specs.Calls.{codeCount, entryCount};
 ghost use Rattle.tree_entries.specs.Writing.{withEntry};
 ghost use Rattle.tree_entries.specs.Entries.{LeafSays, EntrySays};
@@ -20,6 +27,18 @@ pub fn put(tree: &mut [u8], at: usize, kind: u8, argument: u8, size: u8)
     tree[base + 1] = argument;
     tree[base + 2] = size;
     tree[base + 3] = 0;
+}
+
+// The kind of an operator's entry.
+pub fn kind_of(operator: Operator) -> u8
+    ensures { λ r. ⌜ r ≡ kindOf (opOf operator) ⌝ }
+{
+    match operator {
+        Operator::Choice => CHOICE,
+        Operator::Sequence => SEQUENCE,
+        Operator::Parallel => PARALLEL,
+        Operator::Loop => LOOP,
+    }
 }
 
 // What the rule for a node or a list finds: where it ends and the codes of leaves met so far, or that it is broken.
@@ -86,16 +105,16 @@ pub fn entry_at(tree: &[u8], at: usize, seen: CodeSet) -> Entry
     if zero != 0 {
         return Entry::Settled(Checked::Broken);
     }
-    if kind == 1 {
+    if kind == SILENT {
         return Entry::Settled(silent(at, argument, size, seen));
     }
-    if kind == 2 {
+    if kind == ACTIVITY {
         return Entry::Settled(leaf(at, argument, size, seen));
     }
-    if kind < 3 {
+    if kind < CHOICE {
         return Entry::Settled(Checked::Broken);
     }
-    if 6 < kind {
+    if LOOP < kind {
         return Entry::Settled(Checked::Broken);
     }
     if argument < 2 {
