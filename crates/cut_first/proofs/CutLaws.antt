@@ -6,7 +6,9 @@ use mathlib.Core.Bool.{Bool, true, false, cond, not, _&&_}
 use Prim.Native.Nat.{ℕ, zero, suc, _+_, _≤_, _<_}
 use native.Mathlib.Omega.{arith}
 use lib.ListN.{length}
-use borrow.Author.Tests.{eq-eqb, ne-eqb, lt-ltb}
+use borrow.Author.Tests.{lt-ltb}
+use Rattle.rules.specs.declared.Operator.{Operator}
+use Rattle.rules.specs.declared.Operator.the-variants.{Choice, Sequence, Parallel}
 use Rattle.rules.specs.Words.{any, all, push, keep, from}
 use Rattle.rules.specs.Trees.{Op, choice, sequence, parallel}
 use Rattle.rules.specs.Mining as mining
@@ -24,6 +26,7 @@ use Rattle.cut_parts.specs.declared.Parts.{Parts}
 use Rattle.cut_parts.specs.Sets.{listsOf}
 use Rattle.cut_parts.proofs.SetLaws.{number}
 use Rattle.cut_loop.specs.Roomed.{roomed}
+use Rattle.cut_first.specs.declared.Found.the-variants.{Nothing, By}
 use Rattle.cut_first.specs.declared.Cut.{Cut}
 use Rattle.cut_first.specs.Cuts.{Inside, cutElse, WithoutLoop}
 
@@ -118,12 +121,11 @@ abbrev afterChoice : mining.Graph → Shape → Shape
 afterChoice g s = orElse sequence (sequenceParts g) (orElse parallel (parallelParts g) s)
 
 module _ (g : Graph) (kept : ℕ) (ch : Parts) (choices : Looked ch (choiceParts (meant g kept))) where
-  pub first-choice : 2 ≤ ch .n → WithoutLoop g kept (record { kind = 3; parts = ch })
-  unfolding cutElse
+  pub first-choice : 2 ≤ ch .n → WithoutLoop g kept (record { found = By Choice; parts = ch })
   first-choice h =
       record {
         few = choices .few;
-        two = λ _. h;
+        two = h;
         shape = λ i s. cut-found choice (afterChoice (meant g kept) s) ch (choiceParts (meant g kept)) (choices .size) (choices .few) (choices .is) h;
       }
 
@@ -131,12 +133,11 @@ module _ (g : Graph) (kept : ℕ) (ch : Parts) (choices : Looked ch (choiceParts
     no-choice : (s : Shape) → afterChoice (meant g kept) s ≡ orElse choice (choiceParts (meant g kept)) (afterChoice (meant g kept) s)
     no-choice s = cut-missed choice (afterChoice (meant g kept) s) ch (choiceParts (meant g kept)) (choices .size) (choices .few) (choices .is) none
 
-    pub first-sequence : 2 ≤ se .n → WithoutLoop g kept (record { kind = 4; parts = se })
-    unfolding cutElse
+    pub first-sequence : 2 ≤ se .n → WithoutLoop g kept (record { found = By Sequence; parts = se })
     first-sequence h =
         record {
           few = few;
-          two = λ _. h;
+          two = h;
           shape = λ i s.
               let k = sequences i in
               cut-found sequence (orElse parallel (parallelParts (meant g kept)) s) se (sequenceParts (meant g kept)) (k .size) (k .few) (k .is) h ∙ no-choice s;
@@ -148,21 +149,19 @@ module _ (g : Graph) (kept : ℕ) (ch : Parts) (choices : Looked ch (choiceParts
           let k = sequences i in
           cut-missed sequence (orElse parallel (parallelParts (meant g kept)) s) se (sequenceParts (meant g kept)) (k .size) (k .few) (k .is) later ∙ no-choice s
 
-      pub first-parallel : 2 ≤ pa .n → WithoutLoop g kept (record { kind = 5; parts = pa })
-      unfolding cutElse
+      pub first-parallel : 2 ≤ pa .n → WithoutLoop g kept (record { found = By Parallel; parts = pa })
       first-parallel h =
           record {
             few = parallels .few;
-            two = λ _. h;
+            two = h;
             shape = λ i s. cut-found parallel s pa (parallelParts (meant g kept)) (parallels .size) (parallels .few) (parallels .is) h ∙ no-sequence i s;
           }
 
-      pub none-of-three : pa .n < 2 → WithoutLoop g kept (record { kind = 0; parts = pa })
-      unfolding cutElse
+      pub none-of-three : pa .n < 2 → WithoutLoop g kept (record { found = Nothing; parts = pa })
       none-of-three h =
           record {
             few = parallels .few;
-            two = λ n. absurd (n refl);
+            two = tt;
             shape = λ i s. cut-missed parallel s pa (parallelParts (meant g kept)) (parallels .size) (parallels .few) (parallels .is) h ∙ no-sequence i s;
           }
 
@@ -221,10 +220,8 @@ count-listed m x = counted-from (has x) m 0 ∙ ap (count m) (fun-ext (λ (j : �
 
 -- ---- what a cut says
 
-pub cut-none : (c : Cut) → c .kind ≡ 0 → (s : Shape) → cutElse c s ≡ s
-unfolding cutElse
-cut-none c e s = rw (eq-eqb (c .kind) 0 e)
+pub cut-none : (c : Cut) → c .found ≡ Nothing → (s : Shape) → cutElse c s ≡ s
+cut-none c e s = rw e refl
 
-pub cut-some : (c : Cut) → (c .kind ≡ 0 → ⊥) → (s t : Shape) → cutElse c s ≡ cutElse c t
-unfolding cutElse
-cut-some c n s t = rw (ne-eqb (c .kind) 0 n)
+pub cut-some : (c : Cut) (o : Operator) → c .found ≡ By o → (s t : Shape) → cutElse c s ≡ cutElse c t
+cut-some c o e s t = rw e refl

@@ -5,10 +5,17 @@ use code_sets::CodeSet;
 use cut_parts::Parts;
 use graph_rows::Graph;
 use rules::CODE_COUNT;
+use rules::Operator;
 
-// A cut as the tree kind of its operator, 0 for none, and its parts.
+// Whether a graph has a cut, and by which operator.
+pub enum Found {
+    Nothing,
+    By(Operator),
+}
+
+// What was found, and the parts that were looked at last: those of the cut, if there is one.
 pub struct Cut {
-    pub kind: u8,
+    pub found: Found,
     pub parts: Parts,
 }
 
@@ -21,26 +28,26 @@ fn cut_without_loop(g: Graph, cols: [u32; CODE_COUNT], keep: CodeSet) -> Cut
     let choice = cut_choice::choice_parts(g, cols, keep);
     if 2 <= choice.n {
         return Cut {
-            kind: 3,
+            found: Found::By(Operator::Choice),
             parts: choice,
         };
     }
     let sequence = cut_sequence::sequence_parts(rows, keep);
     if 2 <= sequence.n {
         return Cut {
-            kind: 4,
+            found: Found::By(Operator::Sequence),
             parts: sequence,
         };
     }
     let parallel = cut_parallel::parallel_parts(g, cols, keep);
     if 2 <= parallel.n {
         return Cut {
-            kind: 5,
+            found: Found::By(Operator::Parallel),
             parts: parallel,
         };
     }
     Cut {
-        kind: 0,
+        found: Found::Nothing,
         parts: parallel,
     }
 }
@@ -53,13 +60,16 @@ pub fn cut_of(g: Graph, keep: CodeSet) -> Cut
     let cols = graph_reverse::transpose(rows);
     if 2 <= keep.count() {
         let cut = cut_without_loop(g, cols, keep);
-        if cut.kind != 0 {
+        let found = cut.found;
+        if let Found::By(_) = found {
             return cut;
         }
     }
     let parts = cut_loop::loop_parts(g, cols, keep);
     if 2 <= parts.n {
-        return Cut { kind: 6, parts };
+        let found = Found::By(Operator::Loop);
+        return Cut { found, parts };
     }
-    Cut { kind: 0, parts }
+    let found = Found::Nothing;
+    Cut { found, parts }
 }

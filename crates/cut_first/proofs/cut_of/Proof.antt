@@ -1,5 +1,5 @@
 use native.Mathlib.Omega.{arith}
-use mathlib.Core.Path.{refl, sym, _∙_}
+use mathlib.Core.Path.{sym, _∙_}
 use mathlib.Core.Logic.{⊎-elim}
 use Rattle.rules.specs.Trees.{loop}
 use Rattle.rules.specs.Mining.{flower, orElse, cutOr, loopParts}
@@ -7,7 +7,7 @@ use Rattle.rules.specs.Calls.{codeCount}
 use Rattle.code_sets.specs.Bits.{listed}
 use Rattle.graph_rows.specs.Edges.{meant}
 use Rattle.graph_rows.proofs.TableLaws.{owned-field}
-use Rattle.cut_first.specs.Cuts.{Inside, cutElse, cutShape}
+use Rattle.cut_first.specs.Cuts.{Inside, cutShape}
 use Rattle.cut_first.proofs.CutLaws.{length-listed, room, cut-found, cut-missed, Later, later-alone, later-choice, count-listed, cut-none, cut-some}
 use borrow.Author.Needs.{needs}
 use Rattle.cut_first.proofs.cut_of.Statement.{statement}
@@ -22,6 +22,9 @@ count-requires c κs = search needs
 cut-without-loop-requires : tie.Need-cut-without-loop-requires
 cut-without-loop-requires c κs = search needs
 
+enum-told : tie.Need-enum-told
+enum-told c = search needs
+
 returns : tie.Need-returns
 unfolding cutShape cutOr
 returns c =
@@ -32,9 +35,12 @@ returns c =
     record {
       few = cu .ensures .few;
       two = cu .ensures .two;
-      shape = λ i. cut-some (cu .result) (c .if2 .taken) (flower (listed codeCount kept)) (orElse loop (loopParts g) (flower (listed codeCount kept)))
+      shape = λ i. cut-some (cu .result) _ (c .enum-told .given .1) (flower (listed codeCount kept)) (orElse loop (loopParts g) (flower (listed codeCount kept)))
           ∙ cu .ensures .shape i (orElse loop (loopParts g) (flower (listed codeCount kept)));
     }
+
+enum-told-2 : tie.Need-enum-told-2
+enum-told-2 c = search needs
 
 -- where the loop is looked for, there is none of the first three
 later : (c : tie.Joined1) → Inside (c .before .before .before .before .args .g) (c .before .before .before .before .args .keep .bits) →
@@ -42,7 +48,7 @@ later : (c : tie.Joined1) → Inside (c .before .before .before .before .args .g
 unfolding meant
 later c i =
     let a = c .before .before .before .before .args in
-    ⊎-elim (λ w s. sym (cut-none (w .1 .result) (w .3 .left) s) ∙ w .1 .ensures .shape i s)
+    ⊎-elim (λ w s. sym (cut-none (w .1 .result) (w .3 .given .1) s) ∙ w .1 .ensures .shape i s)
     (λ w. later-alone (meant (a .g) (a .keep .bits)) (omega (arith, w .left, c .before .count .ensures, count-listed codeCount (a .keep .bits))))
     (c .if1 .came)
 
@@ -50,7 +56,7 @@ loop-parts-requires : tie.Need-loop-parts-requires
 loop-parts-requires c κs = search needs
 
 returns-2 : tie.Need-returns-2
-unfolding cutShape cutElse cutOr meant
+unfolding cutShape cutOr meant
 returns-2 c =
     let a = c .before .before .before .before .before .before .before .args in
     let kept = a .keep .bits in
@@ -59,13 +65,13 @@ returns-2 c =
     let size = owned-field (lo .result .sets) _ (lo .ok .1 .1 .1 .0) .size in
     record {
       few = lo .ensures .0;
-      two = λ n. c .if3 .taken;
-      shape = λ i. cut-found loop (flower (listed codeCount kept)) (lo .result) (loopParts g) size (lo .ensures .0) (lo .ensures .1 ∙ room g (length-listed codeCount kept) (later-choice g (later (c .before .before .before) i))) (c .if3 .taken)
+      two = c .if2 .taken;
+      shape = λ i. cut-found loop (flower (listed codeCount kept)) (lo .result) (loopParts g) size (lo .ensures .0) (lo .ensures .1 ∙ room g (length-listed codeCount kept) (later-choice g (later (c .before .before .before) i))) (c .if2 .taken)
           ∙ later (c .before .before .before) i (orElse loop (loopParts g) (flower (listed codeCount kept)));
     }
 
 returns-3 : tie.Need-returns-3
-unfolding cutShape cutElse cutOr meant
+unfolding cutShape cutOr meant
 returns-3 c =
     let a = c .before .before .before .before .before .before .before .args in
     let kept = a .keep .bits in
@@ -74,8 +80,8 @@ returns-3 c =
     let size = owned-field (lo .result .sets) _ (lo .ok .1 .1 .1 .0) .size in
     record {
       few = lo .ensures .0;
-      two = λ n. absurd (n refl);
-      shape = λ i. cut-missed loop (flower (listed codeCount kept)) (lo .result) (loopParts g) size (lo .ensures .0) (lo .ensures .1 ∙ room g (length-listed codeCount kept) (later-choice g (later (c .before .before .before) i))) (c .if3 .left)
+      two = tt;
+      shape = λ i. cut-missed loop (flower (listed codeCount kept)) (lo .result) (loopParts g) size (lo .ensures .0) (lo .ensures .1 ∙ room g (length-listed codeCount kept) (later-choice g (later (c .before .before .before) i))) (c .if2 .left)
           ∙ later (c .before .before .before) i (orElse loop (loopParts g) (flower (listed codeCount kept)));
     }
 
@@ -86,7 +92,9 @@ cut-of-spec =
     transpose-requires
     count-requires
     cut-without-loop-requires
+    enum-told
     returns
+    enum-told-2
     loop-parts-requires
     returns-2
     returns-3)
