@@ -12,9 +12,7 @@ use lib.Count.{trailingZeros}
 use lib.ListN.{length, getD}
 use borrow.Author.Tests.{lt-ltb, le-ltb, eq-eqb, ne-eqb, eqb-true}
 use Rattle.rules.specs.Words.{any, from}
-use Rattle.rules.specs.Trees.{Op, choice, sequence, parallel, loop}
 use Rattle.rules.specs.Mining.{Log}
-use Rattle.rules.specs.TreeBlock.{kindOf}
 use Rattle.rules.specs.Calls.{codeCount}
 use Rattle.rules.proofs.BoolLaws.{or-off, bool-cases}
 use Rattle.rules.proofs.ListLaws.{any-has, has-from, any-append}
@@ -22,7 +20,7 @@ use Rattle.code_sets.specs.Bits.{has}
 use Rattle.code_sets.proofs.BitLaws.{has-zero, has-with, has-every, lt-or-le}
 use Rattle.code_sets.proofs.LowestLaws.{lowest-is}
 use Rattle.cut_parts.proofs.SetLaws.{meets-on, meets-off, meets-listed}
-use Rattle.mine_views.specs.Sublogs.{Set, Sight, piecesOf, lacks, bareOf, partSight}
+use Rattle.mine_views.specs.Sublogs.{Set, Sight, piecesOf, lacks, bareOf}
 use Rattle.mine_views.proofs.PassLaws.{pieces-append, bare-empty, bare-full}
 use Rattle.mine_missed.specs.Missed.{partAt, missedBy, lackedBy}
 
@@ -156,18 +154,3 @@ module _ (own : ℕ) (sets : List ℕ) (missed : ℕ) where
       where
         same : k ≤ length sets → length sets ≤ k → k ≡ length sets
         same a b = omega arith
-
--- ---- by the kind of the cut's operator
-
-module _ (l : Log) (s : Sight) (p : List ℕ) where
-  pub none-missed : (o : Op) (kind : ℕ) → kindOf o ≡ kind → (kind < 4) ⊎ (kind ≡ 6) → (k : ℕ) → has 0 k ≡ partSight o p l s .bare
-  none-missed choice kind e h k = has-zero k
-  none-missed sequence kind e h k = absurd (⊎-elim (λ g. omega arith) (λ g. omega arith) h)
-  none-missed parallel kind e h k = absurd (⊎-elim (λ g. omega arith) (λ g. omega arith) h)
-  none-missed loop kind e h k = has-zero k
-
-  pub some-missed : (o : Op) (kind : ℕ) → kindOf o ≡ kind → 4 ≤ kind → (kind ≡ 6 → ⊥) → (t : Bool) → t ≡ bareOf p l s → t ≡ partSight o p l s .bare
-  some-missed choice kind e h g t f = absurd (omega arith)
-  some-missed sequence kind e h g t f = f
-  some-missed parallel kind e h g t f = f
-  some-missed loop kind e h g t f = absurd (g (sym e))

@@ -2,17 +2,17 @@
 use code_sets::CodeSet;
 use mine_views::View;
 use rules::BLOCK_SIZE;
+use rules::Operator;
 ghost use mathlib.Core.Path.{_≡_};
 ghost use mathlib.Core.Bool.{_||_, _&&_};
 ghost use mathlib.Core.List.{[], _∷_};
 ghost use Prim.Native.Nat.{ℕ, _≤_, _<_};
 ghost use lib.Dec.{ltb};
 ghost use lib.ListN.{length, getD};
-ghost use Rattle.rules.specs.Trees.{Op};
 ghost use Rattle.rules.specs.Refusals.{Given};
 ghost use Rattle.rules.specs.LogBlock.{recordsAt, blockEpisodes, logEpisodes};
 ghost use Rattle.rules.specs.Calls.{topCode, logSound, codeCount};
-ghost use Rattle.rules.specs.TreeBlock.{kindOf};
+ghost use Rattle.rules.specs.TreeBlock.{opOf};
 ghost use Rattle.code_sets.specs.Bits.{has};
 ghost use Rattle.mine_views.specs.Sublogs.{sight, bareOf, partSight};
 ghost use Rattle.mine_missed.specs.Missed.{partAt, missedBy, lackedBy};
@@ -26,9 +26,9 @@ fn with_lacked(own: CodeSet, sets: &[u32], missed: u32) -> u32
         return missed;
     }
     let mut m = missed;
-    let mut k: usize = 0;
-    while k < sets.len() {
-        let part = sets[k];
+    let mut k: u8 = 0;
+    while (k as usize) < sets.len() {
+        let part = sets[k as usize];
         let bit = 1u32 << k;
         k += 1;
         if part & own.bits == 0 {
@@ -106,16 +106,15 @@ fn missed_of(log: &[u8], v: View, sets: &[u32]) -> u32
     m
 }
 
-// The parts under a cut whose views have the empty episode, by the kind of the cut's operator: a choice and a loop make none.
-pub fn missed_parts(log: &[u8], v: View, kind: u8, sets: &[u32]) -> u32
+// The parts under a cut whose views have the empty episode: a choice and a loop make none.
+pub fn missed_parts(log: &[u8], v: View, operator: Operator, sets: &[u32]) -> u32
     requires { ⌜ Given (logSound 1 (now log)) × (length (now sets) ≤ codeCount) ⌝ }
-    ensures { λ r. ⌜ ((o : Op) → kindOf o ≡ kind → (k : ℕ) → k < length (now (sets .entry)) → has r k ≡ partSight o (partAt (now (sets .entry)) k) (logEpisodes 1 (now (log .entry))) (sight v) .bare) ⌝ }
+    ensures { λ r. ⌜ ((k : ℕ) → k < length (now (sets .entry)) → has r k ≡ partSight (opOf operator) (partAt (now (sets .entry)) k) (logEpisodes 1 (now (log .entry))) (sight v) .bare) ⌝ }
 {
-    if kind < 4 {
-        return 0;
+    match operator {
+        Operator::Choice => 0,
+        Operator::Sequence => missed_of(log, v, sets),
+        Operator::Parallel => missed_of(log, v, sets),
+        Operator::Loop => 0,
     }
-    if kind == 6 {
-        return 0;
-    }
-    missed_of(log, v, sets)
 }

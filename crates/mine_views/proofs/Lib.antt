@@ -3,4 +3,4 @@ pub mod WalkLaws
 pub mod PartLaws
 pub mod PassLaws
 pub mod TightLaws
-pub mod KindLaws
+pub mod OperatorLaws

@@ -1,29 +1,49 @@
-use mathlib.Core.Logic.{inl, inr}
-use Rattle.rules.specs.LogBlock.{logEpisodes}
-use Rattle.mine_views.specs.Sublogs.{sight}
-use Rattle.mine_missed.specs.Missed.{partAt}
-use Rattle.mine_missed.proofs.MissedLaws.{none-missed, some-missed}
+use Rattle.code_sets.proofs.BitLaws.{has-zero}
 use borrow.Author.Needs.{needs}
 use Rattle.mine_missed.proofs.missed_parts.Statement.{statement}
 use Rattle.mine_missed.proofs.missed_parts.Tie as tie
 
-returns : tie.Need-returns
-returns c o e k lt =
-    let a = c .before .before .before .args in
-    none-missed (logEpisodes 1 (a .log .now)) (sight (a .v)) (partAt (a .sets .now) k) o (a .kind) e (inl (c .if1 .taken)) k
+enum-told : tie.Need-enum-told
+enum-told c = search needs
 
-returns-2 : tie.Need-returns-2
-returns-2 c o e k lt =
-    let a = c .before .before .before .before .args in
-    none-missed (logEpisodes 1 (a .log .now)) (sight (a .v)) (partAt (a .sets .now) k) o (a .kind) e (inr (c .if2 .taken)) k
+enum-told-2 : tie.Need-enum-told-2
+enum-told-2 c = search needs
+
+enum-told-3 : tie.Need-enum-told-3
+enum-told-3 c = search needs
+
+enum-told-4 : tie.Need-enum-told-4
+enum-told-4 c = search needs
+
+returns : tie.Need-returns
+returns c k lt = rw (c .enum-told .given .1) (has-zero k)
 
 missed-of-requires : tie.Need-missed-of-requires
 missed-of-requires c κs = search needs
 
+returns-2 : tie.Need-returns-2
+returns-2 c k lt = rw (c .before .enum-told2 .given .1) (c .missed-of .ensures k lt)
+
+missed-of-requires-2 : tie.Need-missed-of-requires-2
+missed-of-requires-2 c κs = search needs
+
 returns-3 : tie.Need-returns-3
-returns-3 c o e k lt =
-    let a = c .before .before .before .before .before .args in
-    some-missed (logEpisodes 1 (a .log .now)) (sight (a .v)) (partAt (a .sets .now) k) o (a .kind) e (c .before .before .if1 .left) (c .before .if2 .left) _ (c .missed-of .ensures k lt)
+returns-3 c k lt = rw (c .before .enum-told3 .given .1) (c .missed-of2 .ensures k lt)
+
+returns-4 : tie.Need-returns-4
+returns-4 c k lt = rw (c .enum-told4 .given .1) (has-zero k)
 
 pub missed-parts-spec : {M : Type 1} → statement M
-missed-parts-spec = tie.close (tie.spec returns returns-2 missed-of-requires returns-3)
+missed-parts-spec =
+    tie.close
+    (tie.spec
+    enum-told
+    enum-told-2
+    missed-of-requires
+    enum-told-3
+    missed-of-requires-2
+    enum-told-4
+    returns
+    returns-2
+    returns-3
+    returns-4)

@@ -18,6 +18,12 @@ returns c = let a = c .before .before .args in lacked-none (a .own .bits) (a .se
 loop-holds : tie.Need-loop-holds Inv-loop μ-loop
 loop-holds c = let a = c .before .before .args in (below-none (a .own .bits) (a .sets .now) (a .missed), omega arith)
 
+cast-loop : tie.Need-cast-loop Inv-loop μ-loop
+cast-loop c = search needs
+
+cast-part : tie.Need-cast-part Inv-loop μ-loop
+cast-part c = search needs
+
 mul-part : tie.Need-mul-part Inv-loop μ-loop
 mul-part c = search needs
 
@@ -62,6 +68,8 @@ with-lacked-spec =
     μ-loop
     returns
     loop-holds
+    cast-loop
+    cast-part
     mul-part
     shared-slice-read-part
     cast-bit
