@@ -7,8 +7,8 @@ use Prim.Native.Nat.{ℕ}
 use native.Mathlib.Omega.{arith}
 use lib.Dec.{eqb}
 use Rattle.rules.specs.Words.{pick, any, all, keep, from}
-use Rattle.rules.specs.Trees.{Op, silent, leaf, node}
-use Rattle.rules.specs.Mining.{Episode, Log, Rel, Shape, nothing, single, flower, cut, isEmpty, oneEvent, occurring, graph, follows, headOf, cutOr, singleOr, shapeOf, shape, build, grow, split, mined, flowerOf}
+use Rattle.rules.specs.Trees.{Op, node}
+use Rattle.rules.specs.Mining.{Episode, Log, Rel, Shape, nothing, single, flower, cut, isEmpty, oneEvent, occurring, graph, follows, headOf, cutOr, singleOr, shapeOf, shape, build, grow, split, mined}
 use Rattle.rules.proofs.BoolLaws.{bool-cases, not-both}
 use Rattle.rules.proofs.ListLaws.{Has, any-has, all-has, has-all, keep-has, any-false, has-from}
 use Rattle.rules.proofs.Occurring.{Below, code-in, code-of}
@@ -17,6 +17,8 @@ use Rattle.rules.proofs.Shapes.{empty-is}
 use Rattle.rules.proofs.Recursion.{mined-is}
 use Rattle.mine_views.specs.Sublogs.{Sight, shown, Tight}
 use Rattle.mine_views.proofs.TightLaws.{shown-kept, shown-bare, shown-full, tight-below}
+use Rattle.mine_plan.specs.declared.Base.{Base}
+use Rattle.mine_plan.specs.declared.Base.the-variants.{Silent, Leaf, Flower}
 use Rattle.mine_plan.specs.Plans.{lone, baseShape, baseTree}
 
 -- ---- one code: only episodes of one event where it never follows itself
@@ -101,14 +103,14 @@ module _ (m : ℕ) (s : Sight) (l : Log) (k : Tight m s l) where
 
 -- ---- the tree, by the shape
 module _ (m : ℕ) (l : Log) (small : Below m l) where
-  pub tree-base : (kind : ℕ) (cs : List ℕ) → shape m l ≡ baseShape kind cs → mined m l ≡ baseTree kind cs
+  pub tree-base : (b : Base) (cs : List ℕ) → shape m l ≡ baseShape b cs → mined m l ≡ baseTree b cs
   unfolding build
-  tree-base kind cs e = mined-is m l small ∙ ap (build (mined m) l) e ∙ by (eqb kind 1) (eqb kind 2)
+  tree-base b cs e = mined-is m l small ∙ ap (build (mined m) l) e ∙ by b
     where
-      by : (a b : Bool) → build (mined m) l (pick a nothing (pick b (single (headOf cs)) (flower cs))) ≡ pick a silent (pick b (leaf (headOf cs)) (flowerOf cs))
-      by true b = refl
-      by false true = refl
-      by false false = refl
+      by : (d : Base) → build (mined m) l (baseShape d cs) ≡ baseTree d cs
+      by Silent = refl
+      by Leaf = refl
+      by Flower = refl
 
   pub tree-cut : (o : Op) (ps : List (List ℕ)) → shape m l ≡ cut o ps → mined m l ≡ node o (grow (λ p. mined m (split o p l)) ps)
   unfolding build

@@ -1,9 +1,11 @@
 // What is made of a view's sublog: silent, a leaf, a flower, or a cut with its parts.
 use code_sets::CodeSet;
+use cut_first::Found;
 use cut_parts::Parts;
 use graph_rows::Graph;
 use mine_views::View;
 use rules::CODE_COUNT;
+use rules::Operator;
 ghost use mathlib.Core.Path.{_≡_};
 ghost use Prim.Native.Nat.{_≤_, _<_};
 ghost use Rattle.rules.specs.Refusals.{Given};
@@ -13,10 +15,21 @@ ghost use Rattle.code_sets.specs.Bits.{listed};
 ghost use Rattle.graph_rows.specs.Edges.{edgeOf};
 ghost use Rattle.mine_plan.specs.Plans.{lone, CutPlan, Planned};
 
-// What is made of a view's sublog: 0 a flower, 1 silent, 2 a leaf, or a cut by its operator's kind.
+// What has no cut.
+pub enum Base {
+    Silent,
+    Leaf,
+    Flower,
+}
+
+pub enum Made {
+    Uncut(Base),
+    Cut(Operator),
+}
+
 // A cut's parts are the first n sets; `missed` has the numbers of those whose views have the empty episode.
 pub struct Plan {
-    pub kind: u8,
+    pub made: Made,
     pub n: usize,
     pub sets: [u32; CODE_COUNT],
     pub missed: u32,
@@ -35,12 +48,12 @@ fn alone(g: Graph, keep: CodeSet) -> bool
     false
 }
 
-// The plan of a sublog that has no cut, by its kind.
-fn uncut(kind: u8) -> Plan
-    ensures { λ r. ⌜ (r .kind ≡ kind) × (r .n ≡ 0) ⌝ }
+// The plan of a sublog that has no cut.
+fn uncut(base: Base) -> Plan
+    ensures { λ r. ⌜ (r .made ≡ Made.Uncut base) × (r .n ≡ 0) ⌝ }
 {
     Plan {
-        kind,
+        made: Made::Uncut(base),
         n: 0,
         sets: [0u32; CODE_COUNT],
         missed: 0,
@@ -48,15 +61,15 @@ fn uncut(kind: u8) -> Plan
 }
 
 // A cut as a plan: the parts that a sub-episode lacks are looked for.
-fn cut_plan(log: &[u8], v: View, kind: u8, parts: Parts) -> Plan
+fn cut_plan(log: &[u8], v: View, operator: Operator, parts: Parts) -> Plan
     requires { ⌜ Given (logSound 1 (now log)) × (parts .n ≤ codeCount) ⌝ }
-    ensures { λ r. ⌜ CutPlan (logEpisodes 1 (now (log .entry))) v kind parts r ⌝ }
+    ensures { λ r. ⌜ CutPlan (logEpisodes 1 (now (log .entry))) v operator parts r ⌝ }
 {
     let n = parts.n;
     let sets = parts.sets;
-    let missed = mine_missed::missed_parts(log, v, kind, &sets[0..n]);
+    let missed = mine_missed::missed_parts(log, v, operator, &sets[0..n]);
     Plan {
-        kind,
+        made: Made::Cut(operator),
         n,
         sets,
         missed,
@@ -70,16 +83,20 @@ pub fn planned(log: &[u8], v: View) -> Plan
 {
     let keep = v.keep;
     if keep.bits == 0 {
-        return uncut(1);
+        return uncut(Base::Silent);
     }
     if v.bare {
-        return uncut(0);
+        return uncut(Base::Flower);
     }
     let g = mine_graph::graph_of(log, v);
     if alone(g, keep) {
-        return uncut(2);
+        return uncut(Base::Leaf);
     }
     let cut = cut_first::cut_of(g, keep);
+    let found = cut.found;
     let parts = cut.parts;
-    cut_plan(log, v, cut.kind, parts)
+    match found {
+        Found::Nothing => uncut(Base::Flower),
+        Found::By(operator) => cut_plan(log, v, operator, parts),
+    }
 }

@@ -31,7 +31,7 @@ returns c =
       is = refl;
       count = refl;
       same = refl;
-      told = cut-told (logEpisodes 1 (a .log .now)) (a .v) (a .kind) (c .missed-parts .result) (a .parts .n) (a .parts .sets) _ (omega (arith, long)) (a .parts .n - 0) (omega arith) refl (c .missed-parts .ensures);
+      told = cut-told (logEpisodes 1 (a .log .now)) (a .v) (a .operator) (c .missed-parts .result) (a .parts .n) (a .parts .sets) _ (omega (arith, long)) (a .parts .n - 0) (omega arith) refl (c .missed-parts .ensures);
     }
 
 pub cut-plan-spec : {M : Type 1} → statement M

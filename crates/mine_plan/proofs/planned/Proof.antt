@@ -1,6 +1,6 @@
 use Rattle.rules.specs.LogBlock.{logEpisodes}
 use Rattle.graph_rows.proofs.TableLaws.{owned-field}
-use Rattle.mine_plan.proofs.PlannedLaws.{planned-silent, planned-flower, planned-leaf, planned-cut}
+use Rattle.mine_plan.proofs.PlannedLaws.{planned-silent, planned-flower, planned-leaf, planned-none, planned-cut}
 use borrow.Author.Needs.{needs}
 use Rattle.mine_plan.proofs.planned.Statement.{statement}
 use Rattle.mine_plan.proofs.planned.Tie as tie
@@ -40,17 +40,35 @@ returns-3 c =
 cut-of-requires : tie.Need-cut-of-requires
 cut-of-requires c κs = search needs
 
+enum-told : tie.Need-enum-told
+enum-told c = search needs
+
+uncut-requires-4 : tie.Need-uncut-requires-4
+uncut-requires-4 c κs = search needs
+
+enum-known-found : tie.Need-enum-known-found
+enum-known-found c = search needs
+
 cut-plan-requires : tie.Need-cut-plan-requires
-cut-plan-requires c κs = (search needs, c .before .cut-of .ensures .few)
+cut-plan-requires c κs = (search needs, c .before .before .before .before .cut-of .ensures .few)
 
 returns-4 : tie.Need-returns-4
 returns-4 c =
-    let a = c .before .before .before .before .before .before .before .before .before .before .before .args in
-    let g = c .before .before .before .before .before .graph-of in
-    let one = c .before .before .before .before .alone in
-    let r = c .before .before .cut-of in
-    planned-cut (logEpisodes 1 (a .log .now)) (a .v) (search (needs, c .before .before .before .before .before .before .before .before .struct-known .given)) (c .before .before .before .before .before .before .before .if1 .left) (c .before .before .before .before .before .before .if2 .left) (g .result) (g .ensures) (one .result) (one .ensures) (c .before .before .before .if3 .left) (r .result) (r .ensures)
-    (owned-field (r .result .parts .sets) _ (r .ok .1 .1 .1 .0 .1 .1 .1 .0) .size) (c .cut-plan .result) (c .cut-plan .ensures)
+    let at = c .before .before .before .before in
+    let one = at .before .before in
+    let some = one .before .before .before in
+    let a = some .before .before .before .before .args in
+    planned-none (logEpisodes 1 (a .log .now)) (a .v) (search (needs, some .before .struct-known .given)) (some .if1 .left) (one .before .before .if2 .left) (one .before .graph-of .result) (one .before .graph-of .ensures) (one .alone .result) (one .alone .ensures) (at .before .if3 .left) (at .cut-of .result) (at .cut-of .ensures)
+    (c .before .enum-told .given .1) (c .uncut4 .result) (c .uncut4 .ensures)
+
+returns-5 : tie.Need-returns-5
+returns-5 c =
+    let at = c .before .before .before .before .before in
+    let one = at .before .before in
+    let some = one .before .before .before in
+    let a = some .before .before .before .before .args in
+    planned-cut (logEpisodes 1 (a .log .now)) (a .v) (search (needs, some .before .struct-known .given)) (some .if1 .left) (one .before .before .if2 .left) (one .before .graph-of .result) (one .before .graph-of .ensures) (one .alone .result) (one .alone .ensures) (at .before .if3 .left) (at .cut-of .result) (at .cut-of .ensures)
+    (owned-field (at .cut-of .result .parts .sets) _ (at .cut-of .ok .1 .1 .1 .0 .1 .1 .1 .0) .size) _ (c .before .before .found .given .1) (c .cut-plan .result) (c .cut-plan .ensures)
 
 pub planned-spec : {M : Type 1} → statement M
 planned-spec =
@@ -65,5 +83,9 @@ planned-spec =
     uncut-requires-3
     returns-3
     cut-of-requires
+    enum-told
+    uncut-requires-4
+    enum-known-found
     cut-plan-requires
-    returns-4)
+    returns-4
+    returns-5)
