@@ -1,6 +1,10 @@
 // Writing what has no cut into a tree's block: silent, a leaf, a flower.
 use code_sets::CodeSet;
+use mine_plan::Base;
+use rules::ACTIVITY;
+use rules::LOOP;
 use rules::NO_CODE;
+use rules::SILENT;
 ghost use mathlib.Core.Path.{_≡_};
 ghost use mathlib.Core.List.{[]};
 ghost use Prim.Native.Nat.{_+_, _≤_, _<_};
@@ -27,7 +31,7 @@ fn leaf_of(tree: &mut [u8], at: usize, set: CodeSet, c: u8) -> usize
     ensures { λ r. ⌜ WroteAll (leaves (push (has (set .bits) c) c [])) at (now (tree .entry)) r (now (tree .exit)) ⌝ }
 {
     if set.has(c) {
-        tree_entries::put(tree, at, 2, c, 1);
+        tree_entries::put(tree, at, ACTIVITY, c, 1);
         return at + 1;
     }
     at
@@ -53,24 +57,26 @@ fn flower(tree: &mut [u8], at: usize, set: CodeSet) -> usize
     ensures { λ r. ⌜ WroteTree (flowerOf (listed codeCount (set .bits))) at (now (tree .entry)) r (now (tree .exit)) ⌝ }
 {
     let n = set.count() as usize;
-    tree_entries::put(tree, at, 6, byte(n + 1), byte(n + 2));
-    tree_entries::put(tree, at + 1, 1, 0, 1);
+    tree_entries::put(tree, at, LOOP, byte(n + 1), byte(n + 2));
+    tree_entries::put(tree, at + 1, SILENT, 0, 1);
     leaves(tree, at + 2, set)
 }
 
-// Writes what has no cut: silent, a leaf or a flower.
-pub fn base(tree: &mut [u8], at: usize, kind: u8, set: CodeSet) -> usize
-    requires { ⌜ (length (now tree) ≡ 512) × (at + size (baseTree kind (listed codeCount (set .bits))) ≤ entryCount) ⌝ }
-    ensures { λ r. ⌜ WroteTree (baseTree kind (listed codeCount (set .bits))) at (now (tree .entry)) r (now (tree .exit)) ⌝ }
+// Writes what has no cut.
+pub fn base(tree: &mut [u8], at: usize, base: Base, set: CodeSet) -> usize
+    requires { ⌜ (length (now tree) ≡ 512) × (at + size (baseTree base (listed codeCount (set .bits))) ≤ entryCount) ⌝ }
+    ensures { λ r. ⌜ WroteTree (baseTree base (listed codeCount (set .bits))) at (now (tree .entry)) r (now (tree .exit)) ⌝ }
 {
-    if kind == 1 {
-        tree_entries::put(tree, at, 1, 0, 1);
-        return at + 1;
+    match base {
+        Base::Silent => {
+            tree_entries::put(tree, at, SILENT, 0, 1);
+            at + 1
+        }
+        Base::Leaf => {
+            let c = set.first();
+            tree_entries::put(tree, at, ACTIVITY, c, 1);
+            at + 1
+        }
+        Base::Flower => flower(tree, at, set),
     }
-    if kind == 2 {
-        let c = set.first();
-        tree_entries::put(tree, at, 2, c, 1);
-        return at + 1;
-    }
-    flower(tree, at, set)
 }
