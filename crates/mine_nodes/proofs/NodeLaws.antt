@@ -2,15 +2,17 @@
 use mathlib.Core.Path.{_≡_, refl, sym, _∙_, ap, subst}
 use mathlib.Core.Logic.{inl, inr}
 use mathlib.Core.List.{List, [], _∷_, _++_}
-use Prim.Native.Nat.{ℕ, zero, suc, _+_, _-_, _*_, _≤_, _<_}
+use Prim.Native.Nat.{ℕ, zero, suc, _+_, _-_, _*_, _/_, _%_, _^_, _≤_, _<_}
 use native.Mathlib.Numerals.{add-one}
 use native.Mathlib.Omega.{arith}
+use lib.Dec.{eqb}
 use lib.ListN.{length, getD, take, drop, drop-of-length-le}
 use lib.Seq.{drop-cons, getD-take, length-take-le}
+use Rattle.rules.specs.declared.Operator.{Operator}
 use Rattle.rules.specs.Words.{each, keep, from}
 use Rattle.rules.specs.Trees.{Op, Tree, Forest, node, size, sizes, children}
 use Rattle.rules.specs.Mining.{Log, cut, graph, shape, split, grow, mined, occurring, partsOf}
-use Rattle.rules.specs.TreeBlock.{kindOf, entry, entries, entriesAll}
+use Rattle.rules.specs.TreeBlock.{opOf, kindOf, entry, entries, entriesAll}
 use Rattle.rules.specs.Calls.{codeCount, entryCount}
 use Rattle.rules.proofs.ListLaws.{Has, each-has}
 use Rattle.rules.proofs.Entries.{entries-length, entriesAll-length}
@@ -23,10 +25,15 @@ use Rattle.mine_views.specs.declared.View.{View}
 use Rattle.mine_views.specs.Sublogs.{Sight, shown, sight, sublog, Tight, partSight}
 use Rattle.mine_views.proofs.TightLaws.{tight-below, part-shows, part-tight, part-tree}
 use Rattle.mine_bases.specs.Writing.{laid, WroteTree}
-use Rattle.mine_plan.specs.Plans.{baseShape, baseTree}
+use Rattle.mine_plan.specs.declared.Base.{Base}
+use Rattle.mine_plan.specs.declared.Made.{Made}
+use Rattle.mine_plan.specs.declared.Made.the-variants.{Uncut, Cut}
+use Rattle.mine_plan.specs.declared.Plan.{Plan}
+use Rattle.mine_plan.specs.Plans.{baseTree, madeShape, Told, Planned}
 use Rattle.mine_nodes.specs.Ready.{Ready}
 use Rattle.mine_bases.proofs.WritingLaws.{laid-nil, laid-before, wrote-length, wrote-next}
 use Rattle.mine_plan.proofs.PlanLaws.{tree-base, tree-cut}
+use Rattle.mine_plan.proofs.PlannedLaws.{missed-bit}
 
 -- the first n of some sets, from the i-th on, as the rules have them
 abbrev pub restOf : ℕ → List ℕ → ℕ → List (List ℕ)
@@ -68,39 +75,67 @@ pub record Growing (l : Log) (v : View) (o : Op) (n : ℕ) (sets : List ℕ) (at
   pub count : at + 1 + sizes (treesOf l v o (restOf n sets 0)) ≡ next + sizes (treesOf l v o (restOf n sets i))
 
 -- a tree that has no cut
-pub node-base : (l : Log) (v : View) → Tight codeCount (sight v) l → (kind : ℕ) → shape codeCount (sublog v l) ≡ baseShape kind (listed codeCount (v .keep .bits)) →
-    baseTree kind (listed codeCount (v .keep .bits)) ≡ mined codeCount (sublog v l)
-node-base l v k kind e = sym (tree-base codeCount (sublog v l) (tight-below codeCount (sight v) l k) kind (listed codeCount (v .keep .bits)) e)
+pub node-base : (l : Log) (v : View) → Tight codeCount (sight v) l → (plan : Plan) → Planned l v plan → (b : Base) → plan .made ≡ Uncut b →
+    baseTree b (listed codeCount (v .keep .bits)) ≡ mined codeCount (sublog v l)
+node-base l v k plan plans b e =
+    let codes = listed codeCount (v .keep .bits) in
+    sym (tree-base codeCount (sublog v l) (tight-below codeCount (sight v) l k) b codes (plans .makes k ∙ ap (λ (m : Made). madeShape m codes (restOf (plan .n) (plan .sets) 0)) e))
 
 -- a view's own codes are those that occur
 pub tight-listed : (l : Log) (v : View) → Tight codeCount (sight v) l → listed codeCount (v .keep .bits) ≡ occurring codeCount (sublog v l)
 unfolding listed
 tight-listed l v k = sym (k .occurs)
 
-module _ (l : Log) (v : View) (old : List ℕ) (at : ℕ) (ready : Ready l v old at) (n : ℕ) (sets : List ℕ) (room : n ≤ length sets)
-    (o : Op) (cuts : shape codeCount (sublog v l) ≡ cut o (restOf n sets 0)) where
-  pub node-is : mined codeCount (sublog v l) ≡ node o (treesOf l v o (restOf n sets 0))
-  node-is = tree-cut codeCount (sublog v l) (tight-below codeCount (sight v) l (ready .tight)) o (restOf n sets 0) cuts
+-- a view that may be mined, whose plan is a cut
+pub record CutNode (l : Log) (v : View) (old : List ℕ) (at : ℕ) (plan : Plan) (operator : Operator) : Type 0 where
+  pub ready : Ready l v old at
+  pub plans : Planned l v plan
+  pub is : plan .made ≡ Cut operator
+
+module _ {l : Log} {v : View} {old : List ℕ} {at : ℕ} {plan : Plan} {operator : Operator} (here : CutNode l v old at plan operator) where
+  abbrev o : Op
+  o = opOf operator
+
+  abbrev n : ℕ
+  n = plan .n
+
+  abbrev sets : List ℕ
+  sets = plan .sets
+
+  room : n ≤ length sets
+  room = here .plans .room
+
+  tight : Tight codeCount (sight v) l
+  tight = here .ready .tight
+
+  cuts : shape codeCount (sublog v l) ≡ cut o (restOf n sets 0)
+  cuts = here .plans .makes tight ∙ ap (λ (m : Made). madeShape m (listed codeCount (v .keep .bits)) (restOf n sets 0)) (here .is)
+
+  node-is : mined codeCount (sublog v l) ≡ node o (treesOf l v o (restOf n sets 0))
+  node-is = tree-cut codeCount (sublog v l) (tight-below codeCount (sight v) l tight) o (restOf n sets 0) cuts
 
   pub node-room : at + 1 + sizes (treesOf l v o (restOf n sets 0)) ≤ entryCount
-  node-room = let e = ap size node-is in let r = ready .room in omega arith
-
-  pub node-start : Growing l v o n sets at old (at + 1) old 0
-  node-start = record { bytes = refl; count = refl }
+  node-room = let e = ap size node-is in let r = here .ready .room in omega arith
 
   taken : Taken codeCount (sublog v l) o
-  taken = cut-taken codeCount (sublog v l) (tight-below codeCount (sight v) l (ready .tight)) o (restOf n sets 0) cuts .1
+  taken = cut-taken codeCount (sublog v l) (tight-below codeCount (sight v) l tight) o (restOf n sets 0) cuts .1
 
   -- the i-th part, where w is its view
-  module _ (i : ℕ) (h : i < n) (w : View) (sees : sight w ≡ partSight o (listed codeCount (getD sets i 0)) l (sight v)) where
+  module _ (i : ℕ) (h : i < n) (w : View)
+      (call : eqb (plan .missed / 2 ^ i % 2) 1 ≡ partSight o (listed codeCount (getD sets i 0)) l (sight v) .bare → sight w ≡ partSight o (listed codeCount (getD sets i 0)) l (sight v)) where
+    sees : sight w ≡ partSight o (listed codeCount (getD sets i 0)) l (sight v)
+    sees =
+        let told = subst (Told l v plan) (here .is) (here .plans .told) in
+        call (missed-bit (plan .missed) i (partSight o (listed codeCount (getD sets i 0)) l (sight v) .bare) (told i h))
+
     in-cut : Has (listed codeCount (getD sets i 0)) (partsOf o (graph codeCount (sublog v l)))
-    in-cut = subst (Has (listed codeCount (getD sets i 0))) (cut-taken codeCount (sublog v l) (tight-below codeCount (sight v) l (ready .tight)) o (restOf n sets 0) cuts .0) (rest-has n sets room i h)
+    in-cut = subst (Has (listed codeCount (getD sets i 0))) (cut-taken codeCount (sublog v l) (tight-below codeCount (sight v) l tight) o (restOf n sets 0) cuts .0) (rest-has n sets room i h)
 
     pub child-tight : Tight codeCount (sight w) l
-    child-tight = subst (λ (s : Sight). Tight codeCount s l) (sym sees) (part-tight codeCount (sight v) l (ready .tight) o taken (listed codeCount (getD sets i 0)) in-cut)
+    child-tight = subst (λ (s : Sight). Tight codeCount s l) (sym sees) (part-tight codeCount (sight v) l tight o taken (listed codeCount (getD sets i 0)) in-cut)
 
     pub child-tree : mined codeCount (sublog w l) ≡ mined codeCount (split o (listed codeCount (getD sets i 0)) (sublog v l))
-    child-tree = ap (λ (s : Sight). mined codeCount (shown s l)) sees ∙ part-tree codeCount (sight v) l (ready .tight) o taken (listed codeCount (getD sets i 0)) in-cut
+    child-tree = ap (λ (s : Sight). mined codeCount (shown s l)) sees ∙ part-tree codeCount (sight v) l tight o taken (listed codeCount (getD sets i 0)) in-cut
 
     -- it has fewer codes
     pub child-fewer : length (listed codeCount (w .keep .bits)) < length (listed codeCount (v .keep .bits))
@@ -108,10 +143,10 @@ module _ (l : Log) (v : View) (old : List ℕ) (at : ℕ) (ready : Ready l v old
         let q = listed codeCount (getD sets i 0) in
         let a : listed codeCount (w .keep .bits) ≡ q =
         tight-listed l w child-tight ∙ ap (λ (s : Sight). occurring codeCount (shown s l)) sees
-        ∙ sym (occurring-same codeCount (split o q (sublog v l)) (shown (partSight o q l (sight v)) l) (part-shows codeCount (sight v) l (ready .tight) o taken q in-cut))
-        ∙ split-occurring codeCount (sublog v l) (tight-below codeCount (sight v) l (ready .tight)) o (taken .parting) q in-cut in
+        ∙ sym (occurring-same codeCount (split o q (sublog v l)) (shown (partSight o q l (sight v)) l) (part-shows codeCount (sight v) l tight o taken q in-cut))
+        ∙ split-occurring codeCount (sublog v l) (tight-below codeCount (sight v) l tight) o (taken .parting) q in-cut in
         let b = smaller codeCount (sublog v l) o taken q in-cut in
-        omega (arith, ap length a, ap length (tight-listed l v (ready .tight)))
+        omega (arith, ap length a, ap length (tight-listed l v tight))
 
     module _ (next : ℕ) (tree : List ℕ) (g : Growing l v o n sets at old next tree i) (long : length tree ≡ 512) where
       grown : treesOf l v o (restOf n sets i) ≡ treesOf l v o (listed codeCount (getD sets i 0) ∷ restOf n sets (i + 1))
@@ -153,7 +188,7 @@ module _ (l : Log) (v : View) (old : List ℕ) (at : ℕ) (ready : Ready l v old
     unfolding entriesAll
     parts-written = sym (g .bytes ∙ ap (λ (ps : List (List ℕ)). laid (next * 4) (entriesAll (treesOf l v o ps)) tree) (rest-end n sets room i h) ∙ laid-nil (next * 4) tree)
 
-    pub node-wrote : (new : List ℕ) (kind x y : ℕ) → kindOf o ≡ kind → x ≡ n → y ≡ next - at → new ≡ withEntry tree at kind x y → WroteTree (mined codeCount (sublog v l)) at old next new
+    pub node-wrote : (new : List ℕ) (kind x y : ℕ) → kind ≡ kindOf o → x ≡ n → y ≡ next - at → new ≡ withEntry tree at kind x y → WroteTree (mined codeCount (sublog v l)) at old next new
     unfolding entries
     node-wrote new kind x y ek ex ey e =
         let f = treesOf l v o (restOf n sets 0) in
@@ -161,12 +196,12 @@ module _ (l : Log) (v : View) (old : List ℕ) (at : ℕ) (ready : Ready l v old
         let nodes : y ≡ suc (sizes f) = omega (arith, node-next) in
         let four : (at + 1) * 4 ≡ at * 4 + 4 = omega arith in
         let size′ = entriesAll-length f in
-        let long = ready .long in
+        let long = here .ready .long in
         subst (λ (t : Tree). WroteTree t at old next new) (sym node-is)
         (record {
           next = omega (arith, node-next);
           block =
               e ∙ ap (λ (b : List ℕ). withEntry b at kind x y) parts-written
               ∙ laid-before (at * 4) ((at + 1) * 4) (entry kind x y) (entriesAll f) old four (omega (arith, node-room))
-              ∙ (λ j. laid (at * 4) (entry (sym ek j) (kids j) (nodes j) ++ entriesAll f) old);
+              ∙ (λ j. laid (at * 4) (entry (ek j) (kids j) (nodes j) ++ entriesAll f) old);
         })

@@ -1,5 +1,6 @@
 // The tree of a view's sublog, written node by node.
 use code_sets::CodeSet;
+use mine_plan::Made;
 use mine_views::View;
 ghost use Rattle.rules.specs.Mining.{mined};
 ghost use Rattle.rules.specs.Refusals.{Given};
@@ -15,24 +16,29 @@ pub fn mine_node(log: &[u8], tree: &mut [u8], v: View, at: usize) -> usize
     ensures { λ r. ⌜ WroteTree (mined codeCount (sublog v (logEpisodes 1 (now (log .entry))))) at (now (tree .entry)) r (now (tree .exit)) ⌝ }
 {
     let plan = mine_plan::planned(log, v);
-    let kind = plan.kind;
-    if kind < 3 {
-        let keep = v.keep;
-        return mine_bases::base(tree, at, kind, keep);
-    }
+    let made = plan.made;
+    let operator = match made {
+        Made::Uncut(base) => {
+            let keep = v.keep;
+            return mine_bases::base(tree, at, base, keep);
+        }
+        Made::Cut(operator) => operator,
+    };
     let n = plan.n;
     let mut next = at + 1;
-    let mut i: usize = 0;
-    while i < n {
-        let part = CodeSet { bits: plan.sets[i] };
-        let w = mine_views::part_of(v, kind, part, (plan.missed >> i) % 2 == 1);
+    let mut i: u8 = 0;
+    while (i as usize) < n {
+        let part = CodeSet {
+            bits: plan.sets[i as usize],
+        };
+        let w = mine_views::part_of(v, operator, part, (plan.missed >> i) % 2 == 1);
         next = mine_node(log, tree, w, next);
         i += 1;
     }
     tree_entries::put(
         tree,
         at,
-        kind,
+        tree_entries::kind_of(operator),
         mine_bases::byte(n),
         mine_bases::byte(next - at),
     );
