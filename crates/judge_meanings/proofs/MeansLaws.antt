@@ -148,7 +148,7 @@ word-cut S e i j u v h g q =
     let le : i + t .0 ≤ j = omega (arith, t .1) in
     (i + t .0, omega arith, le, sym (ap (keep S) (cut-front e i (t .0) j le)) ∙ t .2, sym (ap (keep S) (cut-back e i (t .0) j le)) ∙ t .3)
 
-pub after-means : (S : ℕ → Bool) (K L : Lang) (e : List ℕ) (A B : ℕ → ℕ → Bool) → length e ≤ 63 → Means S K e A → Means S L e B → Means S (Joined K L) e (after A B)
+pub after-means : (S : ℕ → Bool) (K L : Lang) (e : List ℕ) (A B : ℕ → ℕ → Bool) → length e ≤ 63 → Means S K e A → Means S L e B → Means S (Joined K L) e (λ i j. after (A i) B j)
 unfolding Means after
 after-means S K L e A B small hA hB i j = (
   λ t.

@@ -4,13 +4,12 @@ use native.Mathlib.Omega.{arith}
 use mathlib.Core.List.{List}
 use mathlib.Core.Path.{_≡_, refl, sym, ap, ap₂, _∙_, subst}
 use mathlib.Core.Logic.{⊎-elim}
-use mathlib.Core.Bool.{Bool, true, false, _&&_, _||_}
-use lib.Dec.{eqb}
+use mathlib.Core.Bool.{Bool, false, _&&_, _||_}
 use borrow.Author.Tests.{lt-ltb, le-ltb}
 use lib.ListN.{length, getD, set, replicate, length-set, List·getD-eq-default}
 use lib.Seq.{getD-set-same, getD-set-other}
 use lib.Bits.{bitAnd}
-use Rattle.rules.specs.Words.{pick}
+use Rattle.rules.specs.Trees.{Op, choice, sequence, parallel, loop}
 use Rattle.code_sets.specs.Bits.{has}
 use Rattle.code_sets.proofs.BitLaws.{lt-or-le, has-zero, has-and}
 use Rattle.code_sets.proofs.AnyLaws.{any-none}
@@ -31,18 +30,13 @@ at-new n k j = ap (λ (x : ℕ). has x j) (zeros-at n k) ∙ has-zero j
 pub at-out : (R : List ℕ) (k j : ℕ) → length R ≤ k → at R k j ≡ false
 at-out R k j h = ap (λ (x : ℕ). has x j) (List·getD-eq-default R 0 h) ∙ has-zero j
 
-after-out : (A B : ℕ → ℕ → Bool) (i j : ℕ) → ((k : ℕ) → A i k ≡ false) → after A B i j ≡ false
-unfolding after
-after-out A B i j h = any-none 64 (λ k. A i k && B k j) (λ k. ap (λ (b : Bool). b && B k j) (h k))
-
 -- nor in what is joined of two tables
-pub joined-out : (kind : ℕ) (A B : ℕ → ℕ → Bool) (i j : ℕ) → ((k : ℕ) → A i k ≡ false) → ((k : ℕ) → B i k ≡ false) → joinedBy kind A B i j ≡ false
-joined-out kind A B i j ha hb = go (eqb kind 4) (eqb kind 5)
-  where
-    go : (p q : Bool) → pick p (after A B i j) (pick q (A i j && B i j) (A i j || B i j)) ≡ false
-    go true q = after-out A B i j ha
-    go false true = ap (λ (b : Bool). b && B i j) (ha j)
-    go false false = ap₂ _||_ (ha j) (hb j)
+pub joined-out : (o : Op) (A : ℕ → Bool) (B : ℕ → ℕ → Bool) (i j : ℕ) → ((k : ℕ) → A k ≡ false) → ((k : ℕ) → B i k ≡ false) → joinedBy o A B i j ≡ false
+unfolding after
+joined-out choice A B i j ha hb = ap₂ _||_ (ha j) (hb j)
+joined-out sequence A B i j ha hb = any-none 64 (λ k. A k && B k j) (λ k. ap (λ (b : Bool). b && B k j) (ha k))
+joined-out parallel A B i j ha hb = ap (λ (b : Bool). b && B i j) (ha j)
+joined-out loop A B i j ha hb = ap₂ _||_ (ha j) (hb j)
 
 -- ---- a store to a table, for any property of a row's places
 module _ (R : List ℕ) (i v : ℕ) (l : i < length R) where

@@ -7,6 +7,7 @@ use lib.Dec.{leb, ltb, eqb}
 use lib.ListN.{length, getD}
 use lib.Seq.{slice}
 use Rattle.rules.specs.Words.{pick, all}
+use Rattle.rules.specs.Trees.{Op, choice, sequence, parallel, loop}
 use Rattle.code_sets.specs.Bits.{has, anyBelow}
 
 abbrev pub at : List ℕ → ℕ → ℕ → Bool
@@ -29,13 +30,16 @@ unfoldable pub single : ℕ → List ℕ → Bool
 single a [] = false
 single a (c ∷ l) = pick (eqb c a) (clear (λ x. eqb x a) l) (single a l)
 
--- one after the other
-unfoldable pub after : (ℕ → ℕ → Bool) → (ℕ → ℕ → Bool) → ℕ → ℕ → Bool
-after A B i j = anyBelow 64 (λ k. A i k && B k j)
+-- a row, and after it the rows of a table
+unfoldable pub after : (ℕ → Bool) → (ℕ → ℕ → Bool) → ℕ → Bool
+after A B j = anyBelow 64 (λ k. A k && B k j)
 
--- joined as the children of a node of this kind are: 4 one after the other, 5 both at once, else either
-abbrev pub joinedBy : ℕ → (ℕ → ℕ → Bool) → (ℕ → ℕ → Bool) → ℕ → ℕ → Bool
-joinedBy kind A B i j = pick (eqb kind 4) (after A B i j) (pick (eqb kind 5) (A i j && B i j) (A i j || B i j))
+-- row i of a table joined to another table, as the children of this operator are
+abbrev pub joinedBy : Op → (ℕ → Bool) → (ℕ → ℕ → Bool) → ℕ → ℕ → Bool
+joinedBy choice A B i j = A j || B i j
+joinedBy sequence A B i j = after A B j
+joinedBy parallel A B i j = A j && B i j
+joinedBy loop A B i j = A j || B i j
 
 -- a body, then any number of times a redo and a body
 pub data Loops (A B : ℕ → ℕ → Bool) : ℕ → ℕ → Type 0 where
