@@ -1,18 +1,18 @@
 // Tables of rows joined: one after the other, both at once, either, and a loop.
+use rules::Operator;
 use rules::PLACE_COUNT;
 ghost use mathlib.Core.Path.{_≡_};
 ghost use mathlib.Core.Bool.{_&&_, _||_};
 ghost use Prim.Native.Nat.{ℕ, _≤_, _<_};
-ghost use lib.Dec.{eqb};
-ghost use lib.ListN.{length, getD};
-ghost use Rattle.rules.specs.Words.{pick};
-ghost use Rattle.code_sets.specs.Bits.{has, anyBelow};
-ghost use Rattle.judge_rows.specs.Rows.{at, joinedBy, Loops, Says, Upper};
+ghost use lib.ListN.{length};
+ghost use Rattle.rules.specs.TreeBlock.{opOf};
+ghost use Rattle.code_sets.specs.Bits.{has};
+ghost use Rattle.judge_rows.specs.Rows.{at, after, joinedBy, Loops, Says, Upper};
 
 // The union of the table's rows at the places of `left`.
 fn chain(left: u64, table: &[u64]) -> u64
     requires { ⌜ 64 ≤ length (now table) ⌝ }
-    ensures { λ r. ⌜ ((j : ℕ) → has r j ≡ anyBelow 64 (λ k. has left k && has (getD (now (table .entry)) k 0) j)) ⌝ }
+    ensures { λ r. ⌜ ((j : ℕ) → has r j ≡ after (has left) (at (now (table .entry))) j) ⌝ }
 {
     let mut r: u64 = 0;
     let mut x = left;
@@ -24,25 +24,27 @@ fn chain(left: u64, table: &[u64]) -> u64
     r
 }
 
-// A row `left` joined to the table whose row at the same place is `right`.
-fn joined_row(kind: u8, left: u64, right: u64, table: &[u64]) -> u64
-    requires { ⌜ 64 ≤ length (now table) ⌝ }
-    ensures { λ r. ⌜ ((j : ℕ) → has r j ≡ pick (eqb kind 4) (anyBelow 64 (λ k. has left k && has (getD (now (table .entry)) k 0) j)) (pick (eqb kind 5) (has left j && has right j) (has left j || has right j))) ⌝ }
+// The row `left` joined to row i of the table, as the children of this operator are.
+fn joined_row(operator: Operator, left: u64, i: usize, table: &[u64]) -> u64
+    requires { ⌜ (i < 64) × (64 ≤ length (now table)) ⌝ }
+    ensures { λ r. ⌜ ((j : ℕ) → has r j ≡ joinedBy (opOf operator) (has left) (at (now (table .entry))) i j) ⌝ }
 {
-    match kind {
-        4 => chain(left, table),
-        5 => left & right,
-        _ => left | right,
+    let right = table[i];
+    match operator {
+        Operator::Choice => left | right,
+        Operator::Sequence => chain(left, table),
+        Operator::Parallel => left & right,
+        Operator::Loop => left | right,
     }
 }
 
-// A table joined to another, as the children of a node of this kind are.
-pub fn join_rows(kind: u8, rows: &mut [u64], next: &[u64])
+// A table joined to another, as the children of this operator are.
+pub fn join_rows(operator: Operator, rows: &mut [u64], next: &[u64])
     requires { ⌜ (length (now rows) ≡ 64) × (length (now next) ≡ 64) ⌝ }
-    ensures { λ _. ⌜ ((i j : ℕ) → at (now (rows .exit)) i j ≡ joinedBy kind (at (now (rows .entry))) (at (now (next .entry))) i j) ⌝ }
+    ensures { λ _. ⌜ ((i j : ℕ) → at (now (rows .exit)) i j ≡ joinedBy (opOf operator) (at (now (rows .entry)) i) (at (now (next .entry))) i j) ⌝ }
 {
     for i in 0..PLACE_COUNT {
-        rows[i] = joined_row(kind, rows[i], next[i], next);
+        rows[i] = joined_row(operator, rows[i], i, next);
     }
 }
 

@@ -14,6 +14,7 @@ use Rattle.code_sets.specs.Bits.{has, anyBelow}
 use Rattle.code_sets.proofs.BitLaws.{has-zero, has-or}
 use Rattle.code_sets.proofs.AnyLaws.{any-none}
 use Rattle.code_sets.proofs.LowestLaws.{lowest-is, has-lowest, any-apart}
+use Rattle.judge_rows.specs.Rows.{after}
 use Rattle.judge_joins.proofs.chain.Statement.{statement}
 use Rattle.judge_joins.proofs.chain.Tie as tie
 
@@ -68,6 +69,7 @@ loop-again c =
     (omega (arith, and-le-r x (x - 1)), λ j. turn x (l .r) j (c .before .before .before .args .table .now) p (l .inv .0) ∙ l .inv .1 j)
 
 returns : tie.Need-returns Inv-loop μ-loop
+unfolding after
 returns c j =
     let l = c .before .loop in
     let t = c .before .before .args .table .now in

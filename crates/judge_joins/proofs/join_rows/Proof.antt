@@ -2,30 +2,22 @@
 use borrow.Author.Needs.{needs}
 use Prim.Native.Nat.{ℕ, _-_, _≤_, _<_}
 use native.Mathlib.Omega.{arith}
-use mathlib.Core.List.{List}
 use mathlib.Core.Path.{_≡_, refl, ap, _∙_}
-use mathlib.Core.Bool.{Bool, _&&_, _||_}
-use lib.Dec.{eqb}
 use lib.ListN.{length, getD, length-set}
 use lib.Seq.{getD-set-other}
-use Rattle.rules.specs.Words.{pick}
-use Rattle.code_sets.specs.Bits.{has, anyBelow}
-use Rattle.judge_rows.specs.Rows.{at, after, joinedBy}
+use Rattle.rules.specs.TreeBlock.{opOf}
+use Rattle.code_sets.specs.Bits.{has}
+use Rattle.judge_rows.specs.Rows.{at, joinedBy}
 use Rattle.judge_rows.proofs.TableLaws.{stored-up, rows-all, joined-out, at-out}
 use Rattle.judge_joins.proofs.join_rows.Statement.{statement}
 use Rattle.judge_joins.proofs.join_rows.Tie as tie
 
--- what a row x becomes at place j
-abbrev joined : ℕ → List ℕ → ℕ → ℕ → ℕ → Bool
-joined kind next i j x =
-    pick (eqb kind 4) (anyBelow 64 (λ k. has x k && has (getD next k 0) j)) (pick (eqb kind 5) (has x j && has (getD next i 0) j) (has x j || has (getD next i 0) j))
-
 abbrev Inv-loop : tie.InvT-loop
-Inv-loop kind rows₀ next i₀ rows i =
-    (i ≤ 64) × (length rows ≡ 64) × ((k j : ℕ) → k < i → at rows k j ≡ joinedBy kind (at rows₀) (at next) k j) × ((k : ℕ) → i ≤ k → getD rows k 0 ≡ getD rows₀ k 0)
+Inv-loop operator rows₀ next i₀ rows i =
+    (i ≤ 64) × (length rows ≡ 64) × ((k j : ℕ) → k < i → at rows k j ≡ joinedBy (opOf operator) (at rows₀ k) (at next) k j) × ((k : ℕ) → i ≤ k → getD rows k 0 ≡ getD rows₀ k 0)
 
 abbrev μ-loop : tie.MeasureT-loop
-μ-loop kind rows₀ next i₀ rows i = 64 - i
+μ-loop operator rows₀ next i₀ rows i = 64 - i
 
 loop-holds : tie.Need-loop-holds Inv-loop μ-loop
 loop-holds c = (omega arith, c .before .before .pre .0, λ k j g. absurd (omega arith), λ k g. refl)
@@ -35,12 +27,6 @@ mul-joined-row c = search needs
 
 slice-read-joined-row : tie.Need-slice-read-joined-row Inv-loop μ-loop
 slice-read-joined-row c = search needs
-
-mul-joined-row-2 : tie.Need-mul-joined-row-2 Inv-loop μ-loop
-mul-joined-row-2 c = search needs
-
-shared-slice-read-joined-row : tie.Need-shared-slice-read-joined-row Inv-loop μ-loop
-shared-slice-read-joined-row c = search needs
 
 joined-row-requires : tie.Need-joined-row-requires Inv-loop μ-loop
 joined-row-requires c κs = search needs
@@ -58,17 +44,15 @@ loop-less : tie.Need-loop-less Inv-loop μ-loop
 loop-less c = search needs
 
 loop-again : tie.Need-loop-again Inv-loop μ-loop
-unfolding after
 loop-again c =
-    let l = c .before .before .before .before .loop in
-    let a = c .before .before .before .before .before .before .before .args in
-    let old = a .rows .now in
-    let next = a .next .now in
+    let l = c .before .before .before .loop in
+    let a = c .before .before .before .before .before .before .args in
+    let next = at (a .next .now) in
     let i = l .i in (
       omega arith,
       length-set (l .rows) i _ ∙ l .inv .1,
-      stored-up (l .rows) i (c .joined-row .result) (omega arith) (λ k j t. t ≡ joinedBy (a .kind) (at old) (at next) k j)
-          (λ j. c .joined-row .ensures j ∙ ap (λ (x : ℕ). joined (a .kind) next i j x) (l .inv .3 i (omega arith))) (l .inv .2),
+      stored-up (l .rows) i (c .joined-row .result) (omega arith) (λ k j t. t ≡ joinedBy (opOf (a .operator)) (at (a .rows .now) k) next k j)
+          (λ j. c .joined-row .ensures j ∙ ap (λ (x : ℕ). joinedBy (opOf (a .operator)) (has x) next i j) (l .inv .3 i (omega arith))) (l .inv .2),
       λ k g. getD-set-other (l .rows) i k (c .joined-row .result) 0 (λ e. omega arith) ∙ l .inv .3 k (omega arith),
     )
 
@@ -79,11 +63,11 @@ returns : tie.Need-returns Inv-loop μ-loop
 returns c =
     let l = c .before .loop in
     let st = c .before .before .before .before in
-    let a = st .args in
-    let old = a .rows .now in
-    let next = a .next .now in
-    rows-all (l .rows) (joinedBy (a .kind) (at old) (at next)) (l .inv .1)
-    (λ k j g. joined-out (a .kind) (at old) (at next) k j (λ m. at-out old k m (omega (arith, st .pre .0))) (λ m. at-out next k m (omega (arith, st .pre .1))))
+    let old = st .args .rows .now in
+    let next = st .args .next .now in
+    let o = opOf (st .args .operator) in
+    rows-all (l .rows) (λ k j. joinedBy o (at old k) (at next) k j) (l .inv .1)
+    (λ k j g. joined-out o (at old k) (at next) k j (λ m. at-out old k m (omega (arith, st .pre .0))) (λ m. at-out next k m (omega (arith, st .pre .1))))
     (λ i j g. l .inv .2 i j (omega arith))
 
 pub join-rows-spec : {M : Type 1} → statement M
@@ -95,8 +79,6 @@ join-rows-spec =
     loop-holds
     mul-joined-row
     slice-read-joined-row
-    mul-joined-row-2
-    shared-slice-read-joined-row
     joined-row-requires
     mul-rows
     slice-write-rows

@@ -1,39 +1,43 @@
--- Kind by kind.
+-- Operator by operator.
 use borrow.Author.Needs.{needs}
-use borrow.Author.Tests.{ne-eqb}
-use Prim.Native.Nat.{ℕ}
-use mathlib.Core.Path.{_≡_, refl, _∙_}
-use mathlib.Core.Bool.{Bool}
-use lib.Dec.{eqb}
-use Rattle.rules.specs.Words.{pick}
 use Rattle.code_sets.proofs.BitLaws.{has-and, has-or}
 use Rattle.judge_joins.proofs.joined_row.Statement.{statement}
 use Rattle.judge_joins.proofs.joined_row.Tie as tie
 
-module _ (kind : ℕ) (x y z : Bool) where
-  is-4 : kind ≡ 4 → x ≡ pick (eqb kind 4) x (pick (eqb kind 5) y z)
-  is-4 e = rw e refl
+mul-right : tie.Need-mul-right
+mul-right c = search needs
 
-  is-5 : kind ≡ 5 → y ≡ pick (eqb kind 4) x (pick (eqb kind 5) y z)
-  is-5 e = rw e refl
+shared-slice-read-right : tie.Need-shared-slice-read-right
+shared-slice-read-right c = search needs
 
-  is-other : (kind ≡ 4 → ⊥) → (kind ≡ 5 → ⊥) → z ≡ pick (eqb kind 4) x (pick (eqb kind 5) y z)
-  is-other p q = rw (ne-eqb kind 4 p, ne-eqb kind 5 q) refl
+enum-told : tie.Need-enum-told
+enum-told c = search needs
+
+returns : tie.Need-returns
+returns c j = rw (c .enum-told .given .1) (has-or _ _ j)
+
+enum-told-2 : tie.Need-enum-told-2
+enum-told-2 c = search needs
 
 chain-requires : tie.Need-chain-requires
 chain-requires c κs = search needs
 
-returns : tie.Need-returns
-returns c j = let a = c .before .before .before .args in c .chain .ensures j ∙ is-4 (a .kind) _ _ _ (c .before .match .keys1)
-
 returns-2 : tie.Need-returns-2
-returns-2 c j = let a = c .before .before .args in has-and (a .left) (a .right) j ∙ is-5 (a .kind) _ _ _ (c .match .keys2)
+returns-2 c j = rw (c .before .enum-told2 .given .1) (c .chain .ensures j)
+
+enum-told-3 : tie.Need-enum-told-3
+enum-told-3 c = search needs
 
 returns-3 : tie.Need-returns-3
-returns-3 c j =
-    let a = c .before .before .args in
-    let r = c .match .rest in
-    has-or (a .left) (a .right) j ∙ is-other (a .kind) _ _ _ (r .0 .1) (r .1)
+returns-3 c j = rw (c .enum-told3 .given .1) (has-and _ _ j)
+
+enum-told-4 : tie.Need-enum-told-4
+enum-told-4 c = search needs
+
+returns-4 : tie.Need-returns-4
+returns-4 c j = rw (c .enum-told4 .given .1) (has-or _ _ j)
 
 pub joined-row-spec : {M : Type 1} → statement M
-joined-row-spec = tie.close (tie.spec chain-requires returns returns-2 returns-3)
+joined-row-spec =
+    tie.close
+    (tie.spec mul-right shared-slice-read-right enum-told enum-told-2 chain-requires enum-told-3 enum-told-4 returns returns-2 returns-3 returns-4)

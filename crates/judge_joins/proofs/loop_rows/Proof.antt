@@ -6,7 +6,7 @@ use mathlib.Core.Path.{_≡_, refl, sym, _∙_}
 use mathlib.Core.Bool.{false, false≢true}
 use lib.ListN.{length, getD, length-set}
 use Rattle.code_sets.specs.Bits.{has}
-use Rattle.judge_rows.specs.Rows.{at, Loops, Upper, Says}
+use Rattle.judge_rows.specs.Rows.{at, after, Loops, Upper, Says}
 use Rattle.judge_rows.proofs.TableLaws.{at-new, at-other, stored-down}
 use Rattle.judge_joins.proofs.LoopLaws.{Tail, loop-row, loop-tail, loops-out, tail-out}
 use Rattle.judge_joins.proofs.loop_rows.Statement.{statement}
@@ -84,6 +84,7 @@ loop-less : tie.Need-loop-less Inv-loop μ-loop
 loop-less c = search needs
 
 loop-again : tie.Need-loop-again Inv-loop μ-loop
+unfolding after
 loop-again c =
     let grown = c .before in
     let later = grown .before in
