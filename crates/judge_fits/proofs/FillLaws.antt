@@ -6,7 +6,7 @@ use mathlib.Core.Path.{_≡_, ap, _∙_, subst}
 use mathlib.Core.Logic.{⊎-elim}
 use lib.ListN.{length}
 use Rattle.rules.specs.Words.{mem}
-use Rattle.rules.specs.Trees.{Tree, labels, In}
+use Rattle.rules.specs.Trees.{labels, In}
 use Rattle.rules.specs.TreeBlock.{sizeAt}
 use Rattle.rules.specs.Holds.{Holds}
 use Rattle.rules.specs.Calls.{entryCount}

@@ -1,15 +1,15 @@
 -- A walk over a list of children: the rows so far mean the children so far.
 use Prim.Native.Nat.{ℕ, _+_, _≤_, _<_}
 use native.Mathlib.Omega.{arith}
-use mathlib.Core.List.{List, [], _++_}
+use mathlib.Core.List.{List, _++_}
 use mathlib.Core.Path.{_≡_, refl, sym, ap, _∙_, subst, fun-ext}
-use mathlib.Core.Logic.{_⊎_, inl, inr, ⊎-elim}
+use mathlib.Core.Logic.{_⊎_, inl, ⊎-elim}
 use mathlib.Core.Bool.{Bool, true, false, _&&_, _||_, not}
 use lib.ListN.{length}
 use Rattle.rules.specs.Words.{mem, Has}
 use Rattle.rules.specs.Trees.{Op, choice, sequence, parallel, loop, Tree, Forest, none, more, size, sizes, labels, labelsAll, In, InOne, InRow, InMix}
 use Rattle.rules.specs.WellFormed.{WellFormed}
-use Rattle.rules.specs.TreeBlock.{kindOf, sizeAt}
+use Rattle.rules.specs.TreeBlock.{sizeAt}
 use Rattle.rules.specs.Holds.{Holds, HoldsAll}
 use Rattle.rules.specs.Calls.{codeCount}
 use Rattle.rules.proofs.ListLaws.{mem-has, has-mem, has-append-left, has-append-right}
@@ -77,9 +77,9 @@ module _ (S : ℕ → Bool) (d : Forest) (t : Tree) (e : List ℕ) (short : leng
       (either-means S (λ w. InOne d w) (λ w. In t w) e A B hA hB)
 
   pub more-means : (o : Op) → Means (scope o S (labelsAll d)) (λ w. Listed o d w) e A → Means (scope o S (labels t)) (λ w. In t w) e B
-      → Means (scope o S (labelsAll (snoc d t))) (λ w. Listed o (snoc d t) w) e (λ i j. joinedBy (kindOf o) A B i j)
+      → Means (scope o S (labelsAll (snoc d t))) (λ w. Listed o (snoc d t) w) e (λ i j. joinedBy o (A i) B i j)
   more-means choice hA hB = either hA hB
-  more-means sequence hA hB = means-lang S _ (λ w. InRow (snoc d t) w) e (after A B) (snoc-row d t) (row-snoc d t) (after-means S (λ w. InRow d w) (λ w. In t w) e A B short hA hB)
+  more-means sequence hA hB = means-lang S _ (λ w. InRow (snoc d t) w) e (λ i j. after (A i) B j) (snoc-row d t) (row-snoc d t) (after-means S (λ w. InRow d w) (λ w. In t w) e A B short hA hB)
   more-means parallel hA hB =
       means-set (λ c. mem c (labelsAll d) || mem c (labels t)) (λ c. mem c (labelsAll (snoc d t))) (λ w. InMix (snoc d t) w) e (λ i j. A i j && B i j) (λ c. sym (mem-snoc c d t))
       (means-lang (λ c. mem c (labelsAll d) || mem c (labels t)) _ (λ w. InMix (snoc d t) w) e (λ i j. A i j && B i j) (snoc-mix d t) (mix-snoc d t)
@@ -99,9 +99,9 @@ pub record Walked (o : Op) (S : ℕ → Bool) (b e : List ℕ) (f : Forest) (at 
   pub means : Means (scope o S (labelsAll done)) (λ w. Listed o done w) e R
 
 -- at whatever list the entries hold
-abbrev pub Walks : List ℕ → List ℕ → List ℕ → ℕ → (ℕ → Bool) → ℕ → ℕ → ℕ → (ℕ → ℕ → Bool) → Type 0
-Walks b e work kind S from end at R =
-    (o : Op) (f : Forest) → kind ≡ kindOf o → HoldsAll f b from → from + sizes f ≡ end → WellFormedAll codeCount f → Scoped o S f → Ready b e work from end
+abbrev pub Walks : List ℕ → List ℕ → List ℕ → Op → (ℕ → Bool) → ℕ → ℕ → ℕ → (ℕ → ℕ → Bool) → Type 0
+Walks b e work o S from end at R =
+    (f : Forest) → HoldsAll f b from → from + sizes f ≡ end → WellFormedAll codeCount f → Scoped o S f → Ready b e work from end
     → Walked o S b e f at end R
 
 labels-in : (d : Forest) (t : Tree) (r f : Forest) → append d (more t r) ≡ f → (c : ℕ) → Has c (labels t) → Has c (labelsAll f)
@@ -109,12 +109,12 @@ labels-in d t r f q c m =
     subst (λ (g : Forest). Has c (labelsAll g)) q
     (subst (Has c) (sym (labels-append d (more t r))) (has-append-right c (labelsAll d) (labels t ++ labelsAll r) (has-append-left c (labels t) (labelsAll r) m)))
 
-module _ (b e work : List ℕ) (kind : ℕ) (S : ℕ → Bool) (from end n : ℕ) (B : ℕ → ℕ → Bool) (before : from < end) (len : n ≡ sizeAt b from)
+module _ (b e work : List ℕ) (o : Op) (S : ℕ → Bool) (from end n : ℕ) (B : ℕ → ℕ → Bool) (before : from < end) (len : n ≡ sizeAt b from)
     (hB : (i j : ℕ) → B i j ≡ (kept work from i j && between (clear (less S (labelled b from n))) e i j)) where
-  pub walk-first : Walks b e work kind S from end (from + n) B
+  pub walk-first : Walks b e work o S from end (from + n) B
   unfolding Ready
-  walk-first o none k held ends w s r = absurd (omega arith)
-  walk-first o (more t rest) k held ends w s r =
+  walk-first none held ends w s r = absurd (omega arith)
+  walk-first (more t rest) held ends w s r =
       let size-is : n ≡ size t = len ∙ holds-size t b from (held .0) in
       let wt : WellFormed codeCount t = first-formed codeCount t rest w in
       record {
@@ -127,16 +127,16 @@ module _ (b e work : List ℕ) (kind : ℕ) (S : ℕ → Bool) (from end n : ℕ
             (child-means b e work S from n B hB t (held .0) wt size-is (r t from (omega arith) before (held .0) wt) o (more t rest) s (labels-in none t rest (more t rest) refl));
       }
 
-module _ (b e work : List ℕ) (kind : ℕ) (S : ℕ → Bool) (from end at n : ℕ) (R B Q : ℕ → ℕ → Bool) (short : length e ≤ 63)
+module _ (b e work : List ℕ) (o : Op) (S : ℕ → Bool) (from end at n : ℕ) (R B Q : ℕ → ℕ → Bool) (short : length e ≤ 63)
     (past : from ≤ at) (before : at < end) (len : n ≡ sizeAt b at)
     (hB : (i j : ℕ) → B i j ≡ (kept work at i j && between (clear (less S (labelled b at n))) e i j))
-    (hQ : (i j : ℕ) → Q i j ≡ joinedBy kind R B i j) where
-  turn : (o : Op) (f : Forest) → kind ≡ kindOf o → WellFormedAll codeCount f → Scoped o S f → Ready b e work from end
+    (hQ : (i j : ℕ) → Q i j ≡ joinedBy o (R i) B i j) where
+  turn : (f : Forest) → WellFormedAll codeCount f → Scoped o S f → Ready b e work from end
       → (d r : Forest) → append d r ≡ f → HoldsAll r b at → at + sizes r ≡ end → Means (scope o S (labelsAll d)) (λ w. Listed o d w) e R
       → Walked o S b e f (at + n) end Q
   unfolding Ready
-  turn o f k w s r d none q h g m = absurd (omega arith)
-  turn o f k w s r d (more t rest) q h g m =
+  turn f w s r d none q h g m = absurd (omega arith)
+  turn f w s r d (more t rest) q h g m =
       let size-is : n ≡ size t = len ∙ holds-size t b at (h .0) in
       let wd : WellFormedAll codeCount (append d (more t rest)) = subst (λ (x : Forest). WellFormedAll codeCount x) (sym q) w in
       let wt : WellFormed codeCount t = first-formed codeCount t rest (back-formed codeCount d (more t rest) wd) in
@@ -147,20 +147,19 @@ module _ (b e work : List ℕ) (kind : ℕ) (S : ℕ → Bool) (from end at n : 
         whole = append-snoc d t rest ∙ q;
         held = subst (λ (x : ℕ). HoldsAll rest b (at + x)) (sym size-is) (h .1);
         ends = omega arith;
-        means = means-rows (scope o S (labelsAll (snoc d t))) (λ x. Listed o (snoc d t) x) e (λ i j. joinedBy (kindOf o) R B i j) Q
-            (λ i j. hQ i j ∙ ap (λ (x : ℕ). joinedBy x R B i j) k)
+        means = means-rows (scope o S (labelsAll (snoc d t))) (λ x. Listed o (snoc d t) x) e (λ i j. joinedBy o (R i) B i j) Q hQ
             (more-means S d t e short (child-apart codeCount d t rest wd) R B o m mine);
       }
 
-  pub walk-step : Walks b e work kind S from end at R → Walks b e work kind S from end (at + n) Q
-  walk-step walks o f k held ends w s r =
-      let x = walks o f k held ends w s r in
-      turn o f k w s r (x .done) (x .rest) (x .whole) (x .held) (x .ends) (x .means)
+  pub walk-step : Walks b e work o S from end at R → Walks b e work o S from end (at + n) Q
+  walk-step walks f held ends w s r =
+      let x = walks f held ends w s r in
+      turn f w s r (x .done) (x .rest) (x .whole) (x .held) (x .ends) (x .means)
 
-pub walk-end : (b e work : List ℕ) (kind : ℕ) (S : ℕ → Bool) (from end at : ℕ) (R : ℕ → ℕ → Bool) → end ≤ at → Walks b e work kind S from end at R → ListMeans b e work kind S from end R
+pub walk-end : (b e work : List ℕ) (o : Op) (S : ℕ → Bool) (from end at : ℕ) (R : ℕ → ℕ → Bool) → end ≤ at → Walks b e work o S from end at R → ListMeans b e work o S from end R
 unfolding ListMeans
-walk-end b e work kind S from end at R l walks o f k held ends w s r =
-    let x = walks o f k held ends w s r in
+walk-end b e work o S from end at R l walks f held ends w s r =
+    let x = walks f held ends w s r in
     subst (λ (g : Forest). Means (scope o S (labelsAll g)) (λ w. Listed o g w) e R) (all (x .done) (x .rest) (x .whole) (x .held) (x .ends)) (x .means)
   where
     all : (d g : Forest) → append d g ≡ f → HoldsAll g b at → at + sizes g ≡ end → d ≡ f
@@ -171,7 +170,7 @@ walk-end b e work kind S from end at R l walks o f k held ends w s r =
 
 pub loop-children : (b e work : List ℕ) (S : ℕ → Bool) (from n end : ℕ) (A B Q : ℕ → ℕ → Bool) → length e ≤ 63 → from < end → n ≡ sizeAt b from
     → ((i j : ℕ) → A i j ≡ (kept work from i j && between (clear (less S (labelled b from n))) e i j))
-    → ListMeans b e work 6 S (from + n) end B
+    → ListMeans b e work loop S (from + n) end B
     → (Upper A → Upper B → (i j : ℕ) → Says (Q i j) (Loops A B i j))
     → LoopMeans b e work S from end Q
 unfolding LoopMeans ListMeans Ready
@@ -180,7 +179,7 @@ loop-children b e work S from n end A B Q short before len hA hB hQ t f held end
     let wt = first-formed codeCount t f w in
     let body : Means S (λ x. In t x) e A = child-whole b e work S from n A hA t (held .0) wt size-is (r t from (omega arith) before (held .0) wt)
     (λ c m. s c (has-append-left c (labels t) (labelsAll f) m)) in
-    let redo : Means S (λ x. InOne f x) e B = hB loop f refl (subst (λ (x : ℕ). HoldsAll f b (from + x)) (sym size-is) (held .1)) (omega arith) (others-formed codeCount t f w)
+    let redo : Means S (λ x. InOne f x) e B = hB f (subst (λ (x : ℕ). HoldsAll f b (from + x)) (sym size-is) (held .1)) (omega arith) (others-formed codeCount t f w)
     (λ c m. s c (has-append-right c (labels t) (labelsAll f) m)) (λ u v g k. r u v (omega arith) k) in
     loop-means S (λ x. In t x) (λ x. InOne f x) e A B body redo Q
     (hQ (means-upper S (λ x. In t x) e A short body) (means-upper S (λ x. InOne f x) e B short redo))

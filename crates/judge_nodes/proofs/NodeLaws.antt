@@ -1,28 +1,39 @@
--- A node's rows by its kind.
-use Prim.Native.Nat.{ℕ, suc, _+_, _≤_, _<_}
+-- A node's rows by its kind and its operator.
+use Prim.Native.Nat.{ℕ, _+_}
 use native.Mathlib.Omega.{arith}
 use mathlib.Core.List.{List, [], _∷_}
 use mathlib.Core.Path.{_≡_, refl, sym, ap, _∙_, subst}
 use mathlib.Core.Bool.{Bool, true, false}
 use lib.Dec.{eqb}
-use borrow.Author.Tests.{eq-eqb, ne-eqb}
-use Rattle.rules.specs.Words.{pick, mem, Has}
-use Rattle.rules.specs.Trees.{Op, choice, sequence, parallel, loop, Tree, silent, leaf, node, Forest, none, more, size, sizes, labels, labelsAll, In, InLoop}
+use types.Run.{OneOf, miss}
+use denote.Enum.Declared.{tagOf}
+use Rattle.rules.specs.Words.{mem, Has}
+use Rattle.rules.specs.Trees.{Op, choice, sequence, parallel, loop, silent, leaf, node, Forest, none, more, sizes, labelsAll, In, InOne, InRow, InLoop}
 use Rattle.rules.specs.WellFormed.{WellFormed}
-use Rattle.rules.specs.TreeBlock.{kindOf, kindAt, argumentAt, sizeAt}
+use Rattle.rules.specs.TreeBlock.{opOf, kindAt, argumentAt, sizeAt}
 use Rattle.rules.specs.Holds.{Holds}
 use Rattle.rules.specs.Calls.{codeCount}
+use Rattle.rules.specs.declared.Operator.{Operator}
+use Rattle.rules.specs.declared.Operator.the-variants.{Choice, Sequence, Parallel, Loop}
+use Rattle.rules.proofs.Operator.{the-type}
 use Rattle.rules.proofs.BoolLaws.{or-off}
 use Rattle.rules.proofs.Entries.{kind-low}
 use Rattle.rules.proofs.ListLaws.{has-mem}
 use Rattle.judge_rows.specs.Rows.{between, clear, single}
-use Rattle.judge_meanings.specs.Means.{Means}
+use Rattle.judge_meanings.specs.Means.{Lang, Means}
 use Rattle.judge_meanings.proofs.MeansLaws.{means-rows, means-set, silent-means, leaf-means}
-use Rattle.judge_subtrees.specs.Entries.{labelled}
-use Rattle.judge_nodes.specs.Children.{Listed, scope, Scoped, Ready, ListMeans, LoopMeans}
+use Rattle.judge_subtrees.specs.Entries.{operatorOf, labelled}
+use Rattle.judge_nodes.specs.Children.{against, Ready, ListMeans, LoopMeans}
 use Rattle.judge_nodes.specs.Nodes.{NodeMeans}
 use Rattle.judge_subtrees.proofs.LabelLaws.{labelled-codes}
-use Rattle.judge_subtrees.proofs.EntryLaws.{children-formed}
+use Rattle.judge_subtrees.proofs.EntryLaws.{operator-kind, children-formed}
+
+-- any operator but a parallel
+pub against-all : (p : Operator) → OneOf (0 ∷ 1 ∷ 3 ∷ []) (tagOf the-type p) → (S : ℕ → Bool) (c : ℕ) → S c ≡ against (opOf p) S c
+against-all Choice k S c = refl
+against-all Sequence k S c = refl
+against-all Parallel k S c = absurd (miss (0 ∷ 1 ∷ 3 ∷ []) 2 tt k)
+against-all Loop k S c = refl
 
 module _ (b e : List ℕ) (v : ℕ) (R : ℕ → ℕ → Bool) where
   pub silent-node : (S : ℕ → Bool) → kindAt b v ≡ 1 → ((c : ℕ) → S c ≡ false) → ((i j : ℕ) → R i j ≡ between (clear S) e i j) → NodeMeans b e v R
@@ -39,56 +50,49 @@ module _ (b e : List ℕ) (v : ℕ) (R : ℕ → ℕ → Bool) where
       (means-rows (λ c. eqb c a) (λ w. w ≡ a ∷ []) e (between (single a) e) R (λ i j. h i j ∙ ap (λ (x : ℕ). between (single x) e i j) (held .argument)) (leaf-means a e))
   leaf-node k h (node o f) held w = absurd (omega (arith, held .0 .kind, k, kind-low o))
 
-  -- an operator: its codes are those of all its leaves, or none for a parallel
-  module _ (work : List ℕ) (n : ℕ) (len : n ≡ sizeAt b v) (ready : Ready b e work (v + 1) (v + sizeAt b v)) (S : ℕ → Bool) (hS : (c : ℕ) → S c ≡ pick (eqb (kindAt b v) 5) false (labelled b v n c))
+  module _ (work : List ℕ) (n : ℕ) (len : n ≡ sizeAt b v) (ready : Ready b e work (v + 1) (v + sizeAt b v)) (S : ℕ → Bool)
       (no1 : kindAt b v ≡ 1 → ⊥) (no2 : kindAt b v ≡ 2 → ⊥) where
     below : Ready b e work (v + 1) (v + n)
     below = subst (λ (m : ℕ). Ready b e work (v + 1) (v + m)) (sym len) ready
 
+    -- rows of a node o
+    abbrev Rows : Op → Type 0
+    Rows o = (f : Forest) → Holds (node o f) b v → WellFormed codeCount (node o f) → Means (λ c. mem c (labelsAll f)) (λ x. In (node o f) x) e R
+
+    -- the entry has one operator
+    of-operator : (o : Op) → o ≡ operatorOf (kindAt b v) → Rows o → NodeMeans b e v R
+    unfolding NodeMeans
+    of-operator o is m silent held w = absurd (no1 (held .kind))
+    of-operator o is m (leaf a) held w = absurd (no2 (held .kind))
+    of-operator o is m (node p f) held w = subst Rows (is ∙ ap operatorOf (held .0 .kind) ∙ operator-kind p) m f held w
+
     module _ (o : Op) (f : Forest) (held : Holds (node o f) b v) (w : WellFormed codeCount (node o f)) where
-      size-is : n ≡ suc (sizes f)
-      size-is = len ∙ held .0 .size
+      ends : v + 1 + sizes f ≡ v + n
+      ends = let q = len ∙ held .0 .size in omega arith
 
-      whole-codes : (kindOf o ≡ 5 → ⊥) → (c : ℕ) → S c ≡ mem c (labelsAll f)
-      whole-codes no5 c =
-          hS c ∙ ap (λ (t : Bool). pick t false (labelled b v n c)) (ne-eqb (kindAt b v) 5 (λ q. no5 (sym (held .0 .kind) ∙ q)))
-          ∙ ap (λ (m : ℕ). labelled b v m c) size-is ∙ labelled-codes (node o f) b v c held (w .coded)
+      -- its children are read against the codes of all its leaves
+      whole : (L : Lang) → ((c : ℕ) → S c ≡ labelled b v n c) → (((c : ℕ) → Has c (labelsAll f) → S c ≡ true) → Means S L e R) → Means (λ c. mem c (labelsAll f)) L e R
+      whole L hS m =
+          let q : (c : ℕ) → S c ≡ mem c (labelsAll f) =
+          λ c. hS c ∙ ap (λ (k : ℕ). labelled b v k c) (len ∙ held .0 .size) ∙ labelled-codes (node o f) b v c held (w .coded) in
+          means-set S (λ c. mem c (labelsAll f)) L e R q (m (λ c h. q c ∙ has-mem c (labelsAll f) h))
 
-      no-codes : kindOf o ≡ 5 → (c : ℕ) → S c ≡ false
-      no-codes is5 c = hS c ∙ ap (λ (t : Bool). pick t false (labelled b v n c)) (eq-eqb (kindAt b v) 5 (held .0 .kind ∙ is5))
+    -- any operator but a loop
+    pub list-node : (p : Operator) → OneOf (0 ∷ 1 ∷ 2 ∷ []) (tagOf the-type p) → opOf p ≡ operatorOf (kindAt b v) → ((c : ℕ) → S c ≡ against (opOf p) (labelled b v n) c)
+        → ListMeans b e work (opOf p) S (v + 1) (v + n) R → NodeMeans b e v R
+    unfolding ListMeans
+    list-node Choice k is hS m = of-operator choice is (λ f held w. whole choice f held w (λ x. InOne f x) hS (λ s. m f (held .1) (ends choice f held w) (children-formed codeCount choice f w) s below))
+    list-node Sequence k is hS m = of-operator sequence is (λ f held w. whole sequence f held w (λ x. InRow f x) hS (λ s. m f (held .1) (ends sequence f held w) (children-formed codeCount sequence f w) s below))
+    list-node Parallel k is hS m = of-operator parallel is (λ f held w. m f (held .1) (ends parallel f held w) (children-formed codeCount parallel f w) hS below)
+    list-node Loop k is hS m = absurd (miss (0 ∷ 1 ∷ 2 ∷ []) 3 tt k)
 
-      whole-scoped : (kindOf o ≡ 5 → ⊥) → (c : ℕ) → Has c (labelsAll f) → S c ≡ true
-      whole-scoped no5 c m = whole-codes no5 c ∙ has-mem c (labelsAll f) m
-
-      listed : (Scoped o S f → Means (scope o S (labelsAll f)) (λ x. Listed o f x) e R) → (kindOf o ≡ 6 → ⊥) → Means (λ c. mem c (labelsAll f)) (λ x. In (node o f) x) e R
-      listed = by o refl
-        where
-          by : (p : Op) → p ≡ o → (Scoped p S f → Means (scope p S (labelsAll f)) (λ x. Listed p f x) e R) → (kindOf p ≡ 6 → ⊥) → Means (λ c. mem c (labelsAll f)) (λ x. In (node p f) x) e R
-          by choice q m no6 = let no5 : kindOf o ≡ 5 → ⊥ = λ k. omega (arith, ap kindOf q, k) in
-              means-set S (λ c. mem c (labelsAll f)) (λ x. In (node choice f) x) e R (whole-codes no5) (m (whole-scoped no5))
-          by sequence q m no6 = let no5 : kindOf o ≡ 5 → ⊥ = λ k. omega (arith, ap kindOf q, k) in
-              means-set S (λ c. mem c (labelsAll f)) (λ x. In (node sequence f) x) e R (whole-codes no5) (m (whole-scoped no5))
-          by parallel q m no6 = m (no-codes (ap kindOf (sym q)))
-          by loop q m no6 = absurd (no6 refl)
-
-    pub list-node : (kindAt b v ≡ 6 → ⊥) → ListMeans b e work (kindAt b v) S (v + 1) (v + n) R → NodeMeans b e v R
-    unfolding NodeMeans ListMeans
-    list-node no6 m silent held w = absurd (no1 (held .kind))
-    list-node no6 m (leaf a) held w = absurd (no2 (held .kind))
-    list-node no6 m (node o f) held w =
-        let q = size-is o f held w in
-        listed o f held w (λ s. m o f (held .0 .kind) (held .1) (omega arith) (children-formed codeCount o f w) s below) (λ k. no6 (held .0 .kind ∙ k))
-
-    pub loop-node : kindAt b v ≡ 6 → LoopMeans b e work S (v + 1) (v + n) R → NodeMeans b e v R
-    unfolding NodeMeans LoopMeans
-    loop-node is6 m silent held w = absurd (no1 (held .kind))
-    loop-node is6 m (leaf a) held w = absurd (no2 (held .kind))
-    loop-node is6 m (node choice f) held w = absurd (omega (arith, held .0 .kind, is6))
-    loop-node is6 m (node sequence f) held w = absurd (omega (arith, held .0 .kind, is6))
-    loop-node is6 m (node parallel f) held w = absurd (omega (arith, held .0 .kind, is6))
-    loop-node is6 m (node loop none) held w = absurd (w .wide .0)
-    loop-node is6 m (node loop (more t f)) held w =
-        let q = size-is loop (more t f) held w in
-        let no5 : kindOf loop ≡ 5 → ⊥ = λ k. omega (arith, k) in
-        means-set S (λ c. mem c (labelsAll (more t f))) (λ x. InLoop (more t f) x) e R (whole-codes loop (more t f) held w no5)
-        (m t f (held .1) (omega arith) (children-formed codeCount loop (more t f) w) (whole-scoped loop (more t f) held w no5) below)
+    pub loop-node : (p : Operator) → p ≡ Loop → opOf p ≡ operatorOf (kindAt b v) → ((c : ℕ) → S c ≡ against (opOf p) (labelled b v n) c)
+        → LoopMeans b e work S (v + 1) (v + n) R → NodeMeans b e v R
+    unfolding LoopMeans
+    loop-node p told is hS m = of-operator loop (sym (ap opOf told) ∙ is) go
+      where
+        go : Rows loop
+        go none held w = absurd (w .wide .0)
+        go (more t f) held w =
+            whole loop (more t f) held w (λ x. InLoop (more t f) x) (λ c. hS c ∙ ap (λ (q : Operator). against (opOf q) (labelled b v n) c) told)
+            (λ s. m t f (held .1) (ends loop (more t f) held w) (children-formed codeCount loop (more t f) w) s below)

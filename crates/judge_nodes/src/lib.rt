@@ -1,19 +1,20 @@
 // The rows of one node, by its kind. Row i of entry v, `work[v * 64 + i]`, has bit j set where the events of v's codes
 // between the places i and j of the episode are an episode of the tree at v.
 use code_sets::CodeSet;
+use rules::ACTIVITY;
+use rules::Operator;
 use rules::PLACE_COUNT;
+use rules::SILENT;
 ghost use mathlib.Core.Path.{_≡_};
-ghost use mathlib.Core.Bool.{false, _&&_};
+ghost use mathlib.Core.Bool.{_&&_};
 ghost use Prim.Native.Nat.{ℕ, _+_, _≤_, _<_};
-ghost use lib.Dec.{eqb};
 ghost use lib.ListN.{length};
-ghost use Rattle.rules.specs.Words.{pick};
-ghost use Rattle.rules.specs.TreeBlock.{sizeAt};
+ghost use Rattle.rules.specs.TreeBlock.{opOf, sizeAt};
 ghost use Rattle.rules.specs.Calls.{entryCount};
 ghost use Rattle.code_sets.specs.Bits.{has};
 ghost use Rattle.judge_rows.specs.Rows.{at, between, clear, less, kept};
 ghost use Rattle.judge_subtrees.specs.Entries.{Sized, labelled};
-ghost use Rattle.judge_nodes.specs.Children.{ListMeans, LoopMeans};
+ghost use Rattle.judge_nodes.specs.Children.{against, ListMeans, LoopMeans};
 ghost use Rattle.judge_nodes.specs.Nodes.{Walk, Node, NodeMeans};
 
 // The rows of the child of n entries at v, read against the codes of its parent: none of the others between.
@@ -32,10 +33,10 @@ fn child_rows(
     judge_rows::rows_of(work, v, episode, codes.minus(own))
 }
 
-// The rows of the children from `from` up to `end`, joined by the kind of their parent.
+// The rows of the children from `from` up to `end`, joined by the operator of their parent.
 fn list_rows(
     tree: &[u8],
-    kind: u8,
+    operator: Operator,
     from: usize,
     end: usize,
     episode: &[u8],
@@ -43,7 +44,7 @@ fn list_rows(
     work: &[u64],
 ) -> [u64; PLACE_COUNT]
     requires { ⌜ Walk (now tree) (now episode) (now work) from end × (from < end) ⌝ }
-    ensures { λ r. ⌜ ListMeans (now (tree .entry)) (now (episode .entry)) (now (work .entry)) kind (has (codes .bits)) from end (at r) ⌝ }
+    ensures { λ r. ⌜ ListMeans (now (tree .entry)) (now (episode .entry)) (now (work .entry)) (opOf operator) (has (codes .bits)) from end (at r) ⌝ }
 {
     let first = judge_subtrees::size_at(tree, from);
     let own = child_rows(tree, from, first, episode, codes, work);
@@ -52,7 +53,7 @@ fn list_rows(
     while v < end {
         let n = judge_subtrees::size_at(tree, v);
         let child = child_rows(tree, v, n, episode, codes, work);
-        judge_joins::join_rows(kind, &mut rows, &child);
+        judge_joins::join_rows(operator, &mut rows, &child);
         v += n;
     }
     rows
@@ -72,16 +73,16 @@ fn loop_list_rows(
 {
     let n = judge_subtrees::size_at(tree, from);
     let body = child_rows(tree, from, n, episode, codes, work);
-    let redo = list_rows(tree, 6, from + n, end, episode, codes, work);
+    let redo = list_rows(tree, Operator::Loop, from + n, end, episode, codes, work);
     judge_joins::loop_rows(&body, &redo)
 }
 
 // The codes that a child of this node is read against: all of the node's, but none for a parallel, where each child has its own.
-fn codes_against(tree: &[u8], kind: u8, v: usize, n: usize) -> CodeSet
+fn codes_against(tree: &[u8], operator: Operator, v: usize, n: usize) -> CodeSet
     requires { ⌜ (v + n ≤ entryCount) × (length (now tree) ≡ 512) ⌝ }
-    ensures { λ r. ⌜ ((c : ℕ) → has (r .bits) c ≡ pick (eqb kind 5) false (labelled (now (tree .entry)) v n c)) ⌝ }
+    ensures { λ r. ⌜ ((c : ℕ) → has (r .bits) c ≡ against (opOf operator) (labelled (now (tree .entry)) v n) c) ⌝ }
 {
-    if kind == 5 {
+    if let Operator::Parallel = operator {
         return CodeSet::none();
     }
     judge_subtrees::codes_in(tree, v, n)
@@ -93,16 +94,17 @@ pub fn node_rows(tree: &[u8], v: usize, episode: &[u8], work: &[u64]) -> [u64; P
     ensures { λ r. ⌜ NodeMeans (now (tree .entry)) (now (episode .entry)) v (at r) ⌝ }
 {
     let kind = tree[v * 4];
-    if kind == 1 {
+    if kind == SILENT {
         return judge_rows::clear_rows(episode, CodeSet::none());
     }
-    if kind == 2 {
+    if kind == ACTIVITY {
         return judge_rows::leaf_rows(episode, tree[v * 4 + 1]);
     }
+    let operator = judge_subtrees::operator_at(tree, v);
     let n = judge_subtrees::size_at(tree, v);
-    let codes = codes_against(tree, kind, v, n);
-    if kind == 6 {
+    let codes = codes_against(tree, operator, v, n);
+    if let Operator::Loop = operator {
         return loop_list_rows(tree, v + 1, v + n, episode, codes, work);
     }
-    list_rows(tree, kind, v + 1, v + n, episode, codes, work)
+    list_rows(tree, operator, v + 1, v + n, episode, codes, work)
 }

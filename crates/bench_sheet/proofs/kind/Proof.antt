@@ -1,7 +1,6 @@
 use mathlib.Core.Path.{sym, ap}
 use Rattle.bench_sheet.specs.Words.{kindNamed}
 use Rattle.bench_sheet.proofs.WordLaws.{kind-none}
-use borrow.Author.Needs.{needs}
 use Rattle.bench_sheet.proofs.kind.Statement.{statement}
 use Rattle.bench_sheet.proofs.kind.Tie as tie
 

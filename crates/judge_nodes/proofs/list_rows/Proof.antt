@@ -4,6 +4,7 @@ use Prim.Native.Nat.{_-_, _≤_, _<_}
 use native.Mathlib.Omega.{arith}
 use mathlib.Core.Path.{_≡_}
 use lib.ListN.{length}
+use Rattle.rules.specs.TreeBlock.{opOf}
 use Rattle.code_sets.specs.Bits.{has}
 use Rattle.judge_rows.specs.Rows.{at}
 use Rattle.judge_subtrees.specs.Entries.{Subtrees}
@@ -13,11 +14,11 @@ use Rattle.judge_nodes.proofs.list_rows.Statement.{statement}
 use Rattle.judge_nodes.proofs.list_rows.Tie as tie
 
 abbrev Inv-loop : tie.InvT-loop
-Inv-loop tree kind from end episode codes work first rows₀ v₀ rows v =
-    (from ≤ v) × (length rows ≡ 64) × Subtrees tree v end × Walks tree episode work kind (has (codes .bits)) from end v (at rows)
+Inv-loop tree operator from end episode codes work first rows₀ v₀ rows v =
+    (from ≤ v) × (length rows ≡ 64) × Subtrees tree v end × Walks tree episode work (opOf operator) (has (codes .bits)) from end v (at rows)
 
 abbrev μ-loop : tie.MeasureT-loop
-μ-loop tree kind from end episode codes work first rows₀ v₀ rows v = end - v
+μ-loop tree operator from end episode codes work first rows₀ v₀ rows v = end - v
 
 size-at-requires : tie.Need-size-at-requires Inv-loop μ-loop
 size-at-requires c κs = search needs
@@ -42,7 +43,7 @@ loop-holds c =
       omega arith,
       search needs,
       rw (size .size-at .ensures) next,
-      walk-first (a .tree .now) (a .episode .now) (a .work .now) (a .kind) (has (a .codes .bits)) (a .from) (a .end) (size .size-at .result) (at (c .child-rows .result))
+      walk-first (a .tree .now) (a .episode .now) (a .work .now) (opOf (a .operator)) (has (a .codes .bits)) (a .from) (a .end) (size .size-at .result) (at (c .child-rows .result))
           (st .pre .1) (size .size-at .ensures) (c .child-rows .ensures),
     )
 
@@ -94,7 +95,7 @@ loop-again c =
       omega arith,
       search needs,
       rw (size .size-at2 .ensures) next,
-      walk-step b (a .episode .now) (a .work .now) (a .kind) (has (a .codes .bits)) (a .from) (a .end) (l .v) (size .size-at2 .result)
+      walk-step b (a .episode .now) (a .work .now) (opOf (a .operator)) (has (a .codes .bits)) (a .from) (a .end) (l .v) (size .size-at2 .result)
           (at (l .rows)) (at (child .child-rows2 .result)) (at (joined .join-rows .last .1 .0)) (st .pre .0 .sized .short) (l .inv .0) before (size .size-at2 .ensures)
           (child .child-rows2 .ensures) (joined .join-rows .ensures) (l .inv .3),
     )
@@ -103,7 +104,7 @@ returns : tie.Need-returns Inv-loop μ-loop
 returns c =
     let l = c .before .loop in
     let a = c .before .before .before .before .before .before .before .args in
-    walk-end (a .tree .now) (a .episode .now) (a .work .now) (a .kind) (has (a .codes .bits)) (a .from) (a .end) (l .v) (at (l .rows)) (omega arith) (l .inv .3)
+    walk-end (a .tree .now) (a .episode .now) (a .work .now) (opOf (a .operator)) (has (a .codes .bits)) (a .from) (a .end) (l .v) (at (l .rows)) (omega arith) (l .inv .3)
 
 pub list-rows-spec : {M : Type 1} → statement M
 list-rows-spec =

@@ -3,22 +3,18 @@ use borrow.Author.Needs.{needs}
 use Prim.Native.Nat.{ℕ}
 use native.Mathlib.Omega.{arith}
 use mathlib.Core.Path.{ap, _∙_}
-use Rattle.rules.specs.Calls.{entryCount}
 use Rattle.code_sets.specs.Bits.{has}
 use Rattle.code_sets.proofs.BitLaws.{has-zero}
-use Rattle.judge_rows.specs.Rows.{at}
 use Rattle.judge_subtrees.proofs.EntryLaws.{subtree-size, operator-children, operator-some, operator-two}
 use Rattle.judge_nodes.proofs.NodeLaws.{silent-node, leaf-node, list-node, loop-node}
 use Rattle.judge_nodes.proofs.node_rows.Statement.{statement}
 use Rattle.judge_nodes.proofs.node_rows.Tie as tie
 
 mul-kind : tie.Need-mul-kind
-mul-kind c = let st = c .before .before .before in omega (arith, subtree-size (st .args .tree .now) (st .args .v) entryCount (st .pre .below))
+mul-kind c = omega (arith, subtree-size _ _ _ (c .before .before .before .pre .below))
 
 shared-slice-read-kind : tie.Need-shared-slice-read-kind
-shared-slice-read-kind c =
-    let st = c .before .before .before .before in
-    omega (arith, st .pre .sized .block, subtree-size (st .args .tree .now) (st .args .v) entryCount (st .pre .below))
+shared-slice-read-kind c = let st = c .before .before .before .before in omega (arith, st .pre .sized .block, subtree-size _ _ _ (st .pre .below))
 
 none-requires : tie.Need-none-requires
 none-requires c κs = search needs
@@ -28,111 +24,96 @@ clear-rows-requires c κs = search needs
 
 returns : tie.Need-returns
 returns c =
-    let st = c .before .before .before .before .before .before .before in
-    let a = st .args in
     let none = c .before .none in
-    silent-node (a .tree .now) (a .episode .now) (a .v) (at (c .clear-rows .result)) (has (none .result .bits)) (c .before .before .if1 .taken)
-    (λ x. ap (λ (y : ℕ). has y x) (none .ensures) ∙ has-zero x) (c .clear-rows .ensures)
+    silent-node _ _ _ _ (has (none .result .bits)) (c .before .before .if1 .taken) (λ x. ap (λ (y : ℕ). has y x) (none .ensures) ∙ has-zero x) (c .clear-rows .ensures)
 
 mul-leaf-rows : tie.Need-mul-leaf-rows
-mul-leaf-rows c =
-    let st = c .before .before .before .before .before .before in
-    omega (arith, subtree-size (st .args .tree .now) (st .args .v) entryCount (st .pre .below))
+mul-leaf-rows c = omega (arith, subtree-size _ _ _ (c .before .before .before .before .before .before .pre .below))
 
 add-leaf-rows : tie.Need-add-leaf-rows
-add-leaf-rows c =
-    let st = c .before .before .before .before .before .before in
-    omega (arith, subtree-size (st .args .tree .now) (st .args .v) entryCount (st .pre .below))
+add-leaf-rows c = omega (arith, subtree-size _ _ _ (c .before .before .before .before .before .before .pre .below))
 
 shared-slice-read-leaf-rows : tie.Need-shared-slice-read-leaf-rows
 shared-slice-read-leaf-rows c =
     let st = c .before .before .before .before .before .before .before in
-    omega (arith, st .pre .sized .block, subtree-size (st .args .tree .now) (st .args .v) entryCount (st .pre .below))
+    omega (arith, st .pre .sized .block, subtree-size _ _ _ (st .pre .below))
 
 leaf-rows-requires : tie.Need-leaf-rows-requires
 leaf-rows-requires c κs = search needs
 
 returns-2 : tie.Need-returns-2
-returns-2 c =
-    let st = c .before .before .before .before .before .before .before .before in
-    let a = st .args in
-    leaf-node (a .tree .now) (a .episode .now) (a .v) (at (c .leaf-rows .result)) (c .before .before .if2 .taken) (c .leaf-rows .ensures)
+returns-2 c = leaf-node _ _ _ _ (c .before .before .if2 .taken) (c .leaf-rows .ensures)
+
+operator-at-requires : tie.Need-operator-at-requires
+operator-at-requires c κs =
+    let st = c .before .before .before .before .before .before in
+    let fits = subtree-size _ _ _ (st .pre .below) in
+    (omega arith, st .pre .sized .block)
 
 size-at-requires : tie.Need-size-at-requires
 size-at-requires c κs =
-    let st = c .before .before .before .before .before .before in
-    let fits = subtree-size (st .args .tree .now) (st .args .v) entryCount (st .pre .below) in
+    let st = c .before .before .before .before .before .before .before in
+    let fits = subtree-size _ _ _ (st .pre .below) in
     (omega arith, st .pre .sized .block)
 
 codes-against-requires : tie.Need-codes-against-requires
 codes-against-requires c κs =
-    let st = c .before .before .before .before .before .before .before in
-    let fits = subtree-size (st .args .tree .now) (st .args .v) entryCount (st .pre .below) in
+    let st = c .before .before .before .before .before .before .before .before in
+    let fits = subtree-size _ _ _ (st .pre .below) in
     (omega arith, st .pre .sized .block)
 
+enum-told : tie.Need-enum-told
+enum-told c = search needs
+
 add-loop-list-rows : tie.Need-add-loop-list-rows
-add-loop-list-rows c =
-    let st = c .before .before .before .before .before .before .before .before .before in
-    omega (arith, subtree-size (st .args .tree .now) (st .args .v) entryCount (st .pre .below))
+add-loop-list-rows c = omega (arith, subtree-size _ _ _ (c .before .before .before .before .before .before .before .before .before .before .before .pre .below))
 
 add-loop-list-rows-2 : tie.Need-add-loop-list-rows-2
-add-loop-list-rows-2 c =
-    let st = c .before .before .before .before .before .before .before .before .before in
-    omega (arith, subtree-size (st .args .tree .now) (st .args .v) entryCount (st .pre .below))
+add-loop-list-rows-2 c = omega (arith, subtree-size _ _ _ (c .before .before .before .before .before .before .before .before .before .before .before .pre .below))
 
 loop-list-rows-requires : tie.Need-loop-list-rows-requires
 loop-list-rows-requires c κs =
-    let size = c .before .before in
-    let two = size .before in
+    let size = c .before .before .before in
+    let two = size .before .before in
     let st = two .before .before .before .before .before .before in
-    let b = st .args .tree .now in
-    let v = st .args .v in
-    let fits = subtree-size b v entryCount (st .pre .below) in
-    let more = operator-two b v entryCount (st .pre .below) (two .before .if1 .left) (two .if2 .left) in
-    let children = operator-children b v entryCount (st .pre .below) (two .before .if1 .left) (two .if2 .left) in
+    let fits = subtree-size _ _ _ (st .pre .below) in
+    let more = operator-two _ _ _ (st .pre .below) (two .before .if1 .left) (two .if2 .left) in
+    let children = operator-children _ _ _ (st .pre .below) (two .before .if1 .left) (two .if2 .left) in
     (record { sized = st .pre .sized; children = rw (size .size-at .ensures) children; few = omega arith }, omega arith)
 
 returns-3 : tie.Need-returns-3
 returns-3 c =
-    let codes = c .before .before in
+    let codes = c .before .before .before in
     let size = codes .before in
-    let two = size .before in
+    let two = size .before .before in
     let st = two .before .before .before .before .before .before in
-    let a = st .args in
-    loop-node (a .tree .now) (a .episode .now) (a .v) (at (c .loop-list-rows .result)) (a .work .now) (size .size-at .result) (size .size-at .ensures) (st .pre .ready)
-    (has (codes .codes-against .result .bits)) (codes .codes-against .ensures) (two .before .if1 .left) (two .if2 .left) (c .before .if3 .taken) (c .loop-list-rows .ensures)
+    loop-node _ _ _ _ _ _ (size .size-at .ensures) (st .pre .ready) (has (codes .codes-against .result .bits)) (two .before .if1 .left) (two .if2 .left)
+    (size .before .operator-at .result) (c .before .enum-told .given .1) (size .before .operator-at .ensures) (codes .codes-against .ensures) (c .loop-list-rows .ensures)
 
 add-list-rows : tie.Need-add-list-rows
-add-list-rows c =
-    let st = c .before .before .before .before .before .before .before .before .before in
-    omega (arith, subtree-size (st .args .tree .now) (st .args .v) entryCount (st .pre .below))
+add-list-rows c = omega (arith, subtree-size _ _ _ (c .before .before .before .before .before .before .before .before .before .before .pre .below))
 
 add-list-rows-2 : tie.Need-add-list-rows-2
-add-list-rows-2 c =
-    let st = c .before .before .before .before .before .before .before .before .before in
-    omega (arith, subtree-size (st .args .tree .now) (st .args .v) entryCount (st .pre .below))
+add-list-rows-2 c = omega (arith, subtree-size _ _ _ (c .before .before .before .before .before .before .before .before .before .before .pre .below))
 
 list-rows-requires : tie.Need-list-rows-requires
 list-rows-requires c κs =
     let size = c .before .before in
-    let two = size .before in
+    let two = size .before .before in
     let st = two .before .before .before .before .before .before in
-    let b = st .args .tree .now in
-    let v = st .args .v in
-    let fits = subtree-size b v entryCount (st .pre .below) in
-    let children = operator-children b v entryCount (st .pre .below) (two .before .if1 .left) (two .if2 .left) in
-    let some = operator-some b v entryCount (st .pre .below) (two .before .if1 .left) (two .if2 .left) in
+    let fits = subtree-size _ _ _ (st .pre .below) in
+    let children = operator-children _ _ _ (st .pre .below) (two .before .if1 .left) (two .if2 .left) in
+    let some = operator-some _ _ _ (st .pre .below) (two .before .if1 .left) (two .if2 .left) in
     (record { sized = st .pre .sized; children = rw (size .size-at .ensures) children; few = omega arith }, omega arith)
 
 returns-4 : tie.Need-returns-4
 returns-4 c =
     let codes = c .before .before in
     let size = codes .before in
-    let two = size .before in
+    let two = size .before .before in
     let st = two .before .before .before .before .before .before in
-    let a = st .args in
-    list-node (a .tree .now) (a .episode .now) (a .v) (at (c .list-rows .result)) (a .work .now) (size .size-at .result) (size .size-at .ensures) (st .pre .ready)
-    (has (codes .codes-against .result .bits)) (codes .codes-against .ensures) (two .before .if1 .left) (two .if2 .left) (c .before .if3 .left) (c .list-rows .ensures)
+    list-node _ _ _ _ _ _ (size .size-at .ensures) (st .pre .ready) (has (codes .codes-against .result .bits)) (two .before .if1 .left) (two .if2 .left)
+    (size .before .operator-at .result) (c .before .match .keys2) (size .before .operator-at .ensures) (codes .codes-against .ensures) (c .list-rows .ensures)
 
 pub node-rows-spec : {M : Type 1} → statement M
 node-rows-spec =
@@ -148,8 +129,10 @@ node-rows-spec =
     shared-slice-read-leaf-rows
     leaf-rows-requires
     returns-2
+    operator-at-requires
     size-at-requires
     codes-against-requires
+    enum-told
     add-loop-list-rows
     add-loop-list-rows-2
     loop-list-rows-requires
