@@ -1,4 +1,5 @@
 // The listing of a tree's block.
+use rules::PARALLEL;
 ghost use mathlib.Core.Path.{_≡_};
 ghost use Prim.Native.Nat.{_+_, _*_, _≤_, _<_};
 ghost use lib.ListN.{length};
@@ -14,7 +15,7 @@ fn name_place(kind: u8) -> usize
     if kind == 0 {
         return 25;
     }
-    if 5 < kind {
+    if PARALLEL < kind {
         return 25;
     }
     (kind as usize - 1) * 5
