@@ -1,30 +1,36 @@
 // The lines of a bench sheet: words with one blank between two, of which a number or the name of a kind of node is a value.
+use rules::ACTIVITY;
+use rules::CHOICE;
+use rules::LOOP;
+use rules::PARALLEL;
+use rules::SEQUENCE;
+use rules::SILENT;
 ghost use mathlib.Core.Path.{_≡_};
 ghost use Prim.Native.Nat.{_%_};
 ghost use lib.Seq.{sets};
 ghost use Rattle.bench_sheet.specs.Words.{kindNamed, grown, numberOf, valuesOf, listed};
 
 // The kind of node whose name begins with a letter: tau, act, xor, seq, par, loop. 0 for any other letter.
-fn kind(letter: u8) -> usize
+fn kind(letter: u8) -> u8
     ensures { λ r. ⌜ r ≡ kindNamed letter ⌝ }
 {
     if letter == b't' {
-        return 1;
+        return SILENT;
     }
     if letter == b'a' {
-        return 2;
+        return ACTIVITY;
     }
     if letter == b'x' {
-        return 3;
+        return CHOICE;
     }
     if letter == b's' {
-        return 4;
+        return SEQUENCE;
     }
     if letter == b'p' {
-        return 5;
+        return PARALLEL;
     }
     if letter == b'l' {
-        return 6;
+        return LOOP;
     }
     0
 }
@@ -43,7 +49,7 @@ fn grow(n: usize, b: u8) -> usize
         return n * 10 + (b - b'0') as usize;
     }
     if n == 0 {
-        return kind(b);
+        return kind(b) as usize;
     }
     n
 }

@@ -25,6 +25,9 @@ returns-3 c = search grow-digit
 kind-requires : tie.Need-kind-requires
 kind-requires c κs = search needs
 
+cast-result-2 : tie.Need-cast-result-2
+cast-result-2 c = search needs
+
 returns-4 : tie.Need-returns-4
 returns-4 c = c .kind .ensures ∙ search (grow-kind, needs)
 
@@ -42,5 +45,6 @@ grow-spec =
     add-result
     returns-3
     kind-requires
+    cast-result-2
     returns-4
     returns-5)
