@@ -1,6 +1,7 @@
 // The first cut of a graph: choice, sequence, parallel or loop.
 ghost use Rattle.graph_reverse.specs.Reverse.{Back};
 ghost use Rattle.cut_first.specs.Cuts.{WithoutLoop, CutOf};
+use code_sets::Bits;
 use code_sets::CodeSet;
 use cut_parts::Parts;
 use graph_rows::Graph;
@@ -20,7 +21,7 @@ pub struct Cut {
 }
 
 // The first of choice, sequence and parallel.
-fn cut_without_loop(g: Graph, cols: [u32; CODE_COUNT], keep: CodeSet) -> Cut
+fn cut_without_loop(g: Graph, cols: [Bits; CODE_COUNT], keep: CodeSet) -> Cut
     requires { ⌜ Back (g .rows) cols ⌝ }
     ensures { λ r. ⌜ WithoutLoop g (keep .bits) r ⌝ }
 {

@@ -3,7 +3,7 @@ use mathlib.Core.Path.{_≡_, refl, sym, _∙_, ap}
 use mathlib.Core.Logic.{_⊎_, inl, inr, ⊎-elim}
 use mathlib.Core.List.{List, [], _∷_, _++_}
 use mathlib.Core.Bool.{Bool, true, false, not, _&&_, _||_}
-use Prim.Native.Nat.{ℕ, _+_, _*_, _%_, _^_, _≤_, _<_}
+use Prim.Native.Nat.{ℕ, _+_, _-_, _*_, _%_, _^_, _≤_, _<_}
 use native.Mathlib.Nat.{pos-of-ne-zero}
 use native.Mathlib.Omega.{arith}
 use lib.Dec.{eqb, ltb}
@@ -62,7 +62,7 @@ module _ (s : Sight) (sets : List ℕ) where
       by (inr n) = ap (λ (t : Bool). (t && true) || any (lacks (partAt sets k)) (piecesOf s l)) n ∙ bare-full s (partAt sets k) l n
 
 -- which parts are taken to be missed before the first block
-pub first-all : (b : Bool) → b ≡ true → (k : ℕ) → has 4294967295 k ≡ (b && ltb k codeCount)
+pub first-all : (b : Bool) → b ≡ true → (k : ℕ) → has (2 ^ codeCount - 1) k ≡ (b && ltb k codeCount)
 first-all b e k = has-every codeCount k ∙ ap (λ (t : Bool). t && ltb k codeCount) (sym e)
 
 pub first-none : (b : Bool) → b ≡ false → (k : ℕ) → has 0 k ≡ (b && ltb k codeCount)

@@ -1,4 +1,5 @@
 // Which parts of a cut some sub-episode of a view has no event of: the views of those parts have the empty episode.
+use code_sets::Bits;
 use code_sets::CodeSet;
 use mine_views::View;
 use rules::BLOCK_SIZE;
@@ -18,7 +19,7 @@ ghost use Rattle.mine_views.specs.Sublogs.{sight, bareOf, partSight};
 ghost use Rattle.mine_missed.specs.Missed.{partAt, missedBy, lackedBy};
 
 // The parts that a sub-episode of these events lacks, besides those missed before.
-fn with_lacked(own: CodeSet, sets: &[u32], missed: u32) -> u32
+fn with_lacked(own: CodeSet, sets: &[Bits], missed: Bits) -> Bits
     requires { ⌜ length (now sets) ≤ codeCount ⌝ }
     ensures { λ r. ⌜ ((k : ℕ) → has r k ≡ (has missed k || lackedBy (now (sets .entry)) (has (own .bits)) k)) ⌝ }
 {
@@ -29,7 +30,7 @@ fn with_lacked(own: CodeSet, sets: &[u32], missed: u32) -> u32
     let mut k: u8 = 0;
     while (k as usize) < sets.len() {
         let part = sets[k as usize];
-        let bit = 1u32 << k;
+        let bit: Bits = 1 << k;
         k += 1;
         if part & own.bits == 0 {
             m |= bit;
@@ -39,7 +40,7 @@ fn with_lacked(own: CodeSet, sets: &[u32], missed: u32) -> u32
 }
 
 // The parts that a sub-episode of one record's codes lacks, besides those missed before.
-fn missed_codes(codes: &[u8], v: View, sets: &[u32], missed: u32) -> u32
+fn missed_codes(codes: &[u8], v: View, sets: &[Bits], missed: Bits) -> Bits
     requires { ⌜ length (now sets) ≤ codeCount ⌝ }
     ensures { λ r. ⌜ has r ≡ missedBy (sight v) (now (sets .entry)) (has missed) (now (codes .entry) ∷ []) ⌝ }
 {
@@ -62,7 +63,7 @@ fn missed_codes(codes: &[u8], v: View, sets: &[u32], missed: u32) -> u32
 }
 
 // The parts that a sub-episode of one block's records lacks, besides those missed before.
-fn missed_block(block: &[u8], v: View, sets: &[u32], missed: u32) -> u32
+fn missed_block(block: &[u8], v: View, sets: &[Bits], missed: Bits) -> Bits
     requires { ⌜ (length (now block) ≡ 512) × Given (recordsAt 1 topCode (getD (now block) 0 0) (now block) 1) × (length (now sets) ≤ codeCount) ⌝ }
     ensures { λ r. ⌜ has r ≡ missedBy (sight v) (now (sets .entry)) (has missed) (blockEpisodes 1 (now (block .entry))) ⌝ }
 {
@@ -80,7 +81,7 @@ fn missed_block(block: &[u8], v: View, sets: &[u32], missed: u32) -> u32
 }
 
 // Every part where the empty episode is there too, and none otherwise.
-fn at_first(bare: bool) -> u32
+fn at_first(bare: bool) -> Bits
     ensures { λ r. ⌜ ((k : ℕ) → has r k ≡ (bare && ltb k codeCount)) ⌝ }
 {
     if bare {
@@ -90,7 +91,7 @@ fn at_first(bare: bool) -> u32
 }
 
 // The parts that an episode of the view lacks.
-fn missed_of(log: &[u8], v: View, sets: &[u32]) -> u32
+fn missed_of(log: &[u8], v: View, sets: &[Bits]) -> Bits
     requires { ⌜ Given (logSound 1 (now log)) × (length (now sets) ≤ codeCount) ⌝ }
     ensures { λ r. ⌜ ((k : ℕ) → k < length (now (sets .entry)) → has r k ≡ bareOf (partAt (now (sets .entry)) k) (logEpisodes 1 (now (log .entry))) (sight v)) ⌝ }
 {
@@ -107,7 +108,7 @@ fn missed_of(log: &[u8], v: View, sets: &[u32]) -> u32
 }
 
 // The parts under a cut whose views have the empty episode: a choice and a loop make none.
-pub fn missed_parts(log: &[u8], v: View, operator: Operator, sets: &[u32]) -> u32
+pub fn missed_parts(log: &[u8], v: View, operator: Operator, sets: &[Bits]) -> Bits
     requires { ⌜ Given (logSound 1 (now log)) × (length (now sets) ≤ codeCount) ⌝ }
     ensures { λ r. ⌜ ((k : ℕ) → k < length (now (sets .entry)) → has r k ≡ partSight (opOf operator) (partAt (now (sets .entry)) k) (logEpisodes 1 (now (log .entry))) (sight v) .bare) ⌝ }
 {

@@ -1,4 +1,5 @@
 // What is made of a view's sublog: silent, a leaf, a flower, or a cut with its parts.
+use code_sets::Bits;
 use code_sets::CodeSet;
 use cut_first::Found;
 use cut_parts::Parts;
@@ -31,8 +32,8 @@ pub enum Made {
 pub struct Plan {
     pub made: Made,
     pub n: usize,
-    pub sets: [u32; CODE_COUNT],
-    pub missed: u32,
+    pub sets: [Bits; CODE_COUNT],
+    pub missed: Bits,
 }
 
 // Has the graph one code that never follows itself?
@@ -55,7 +56,7 @@ fn uncut(base: Base) -> Plan
     Plan {
         made: Made::Uncut(base),
         n: 0,
-        sets: [0u32; CODE_COUNT],
+        sets: [0; CODE_COUNT],
         missed: 0,
     }
 }
