@@ -26,25 +26,21 @@ size-at-requires c κs = search needs
 child-rows-requires : tie.Need-child-rows-requires Inv-loop μ-loop
 child-rows-requires c κs =
     let st = c .before .before .before .before in
-    let fits = first-child (st .args .tree .now) (st .args .from) (st .args .end) (st .pre .0 .children) (st .pre .1) in
+    let fits = first-child _ _ _ (st .pre .0 .children) (st .pre .1) in
     (st .pre .0 .sized, omega arith, omega arith)
 
 add-v : tie.Need-add-v Inv-loop μ-loop
-add-v c =
-    let st = c .before .before .before .before .before in
-    omega (arith, first-child (st .args .tree .now) (st .args .from) (st .args .end) (st .pre .0 .children) (st .pre .1))
+add-v c = let st = c .before .before .before .before .before in omega (arith, first-child _ _ _ (st .pre .0 .children) (st .pre .1))
 
 loop-holds : tie.Need-loop-holds Inv-loop μ-loop
 loop-holds c =
     let size = c .before in
     let st = size .before .before .before .before in
-    let a = st .args in
-    let next = other-children (a .tree .now) (a .from) (a .end) (st .pre .0 .children) (st .pre .1) in (
+    let next = other-children _ _ _ (st .pre .0 .children) (st .pre .1) in (
       omega arith,
       search needs,
       rw (size .size-at .ensures) next,
-      walk-first (a .tree .now) (a .episode .now) (a .work .now) (opOf (a .operator)) (has (a .codes .bits)) (a .from) (a .end) (size .size-at .result) (at (c .child-rows .result))
-          (st .pre .1) (size .size-at .ensures) (c .child-rows .ensures),
+      walk-first _ _ _ _ _ _ _ _ _ (st .pre .1) (size .size-at .ensures) (c .child-rows .ensures),
     )
 
 size-at-requires-2 : tie.Need-size-at-requires-2 Inv-loop μ-loop
@@ -54,8 +50,7 @@ child-rows-requires-2 : tie.Need-child-rows-requires-2 Inv-loop μ-loop
 child-rows-requires-2 c κs =
     let st = c .before .before .before .before .before .before .before .before in
     let l = c .before .before .loop in
-    let before : l .v < st .args .end = omega arith in
-    let fits = first-child (st .args .tree .now) (l .v) (st .args .end) (l .inv .2) before in
+    let fits = first-child _ _ _ (l .inv .2) (omega arith) in
     (st .pre .0 .sized, omega arith, omega arith)
 
 slice-aggregate-join-rows : tie.Need-slice-aggregate-join-rows Inv-loop μ-loop
@@ -68,18 +63,10 @@ join-rows-requires : tie.Need-join-rows-requires Inv-loop μ-loop
 join-rows-requires c κs = search needs
 
 add-v-2 : tie.Need-add-v-2 Inv-loop μ-loop
-add-v-2 c =
-    let l = c .before .before .before .before .before .before .before .loop in
-    let st = c .before .before .before .before .before .before .before .before .before .before .before .before .before in
-    let before : l .v < st .args .end = omega arith in
-    omega (arith, first-child (st .args .tree .now) (l .v) (st .args .end) (l .inv .2) before)
+add-v-2 c = omega (arith, first-child _ _ _ (c .before .before .before .before .before .before .before .loop .inv .2) (omega arith))
 
 loop-less : tie.Need-loop-less Inv-loop μ-loop
-loop-less c =
-    let l = c .before .before .before .before .before .before .before .loop in
-    let st = c .before .before .before .before .before .before .before .before .before .before .before .before .before in
-    let before : l .v < st .args .end = omega arith in
-    omega (arith, first-child (st .args .tree .now) (l .v) (st .args .end) (l .inv .2) before)
+loop-less c = omega (arith, first-child _ _ _ (c .before .before .before .before .before .before .before .loop .inv .2) (omega arith))
 
 loop-again : tie.Need-loop-again Inv-loop μ-loop
 loop-again c =
@@ -88,23 +75,17 @@ loop-again c =
     let size = child .before in
     let l = size .before .before .loop in
     let st = size .before .before .before .before .before .before .before .before in
-    let a = st .args in
-    let b = a .tree .now in
-    let before : l .v < a .end = omega arith in
-    let next = other-children b (l .v) (a .end) (l .inv .2) before in (
+    let before : l .v < st .args .end = omega arith in
+    let next = other-children _ _ _ (l .inv .2) before in (
       omega arith,
       search needs,
       rw (size .size-at2 .ensures) next,
-      walk-step b (a .episode .now) (a .work .now) (opOf (a .operator)) (has (a .codes .bits)) (a .from) (a .end) (l .v) (size .size-at2 .result)
-          (at (l .rows)) (at (child .child-rows2 .result)) (at (joined .join-rows .last .1 .0)) (st .pre .0 .sized .short) (l .inv .0) before (size .size-at2 .ensures)
-          (child .child-rows2 .ensures) (joined .join-rows .ensures) (l .inv .3),
+      walk-step _ _ _ _ _ _ _ _ _ (at (l .rows)) (at (child .child-rows2 .result)) (at (joined .join-rows .last .1 .0)) (st .pre .0 .sized .short) (l .inv .0) before
+          (size .size-at2 .ensures) (child .child-rows2 .ensures) (joined .join-rows .ensures) (l .inv .3),
     )
 
 returns : tie.Need-returns Inv-loop μ-loop
-returns c =
-    let l = c .before .loop in
-    let a = c .before .before .before .before .before .before .before .args in
-    walk-end (a .tree .now) (a .episode .now) (a .work .now) (opOf (a .operator)) (has (a .codes .bits)) (a .from) (a .end) (l .v) (at (l .rows)) (omega arith) (l .inv .3)
+returns c = let l = c .before .loop in walk-end _ _ _ _ _ _ _ (l .v) (at (l .rows)) (omega arith) (l .inv .3)
 
 pub list-rows-spec : {M : Type 1} → statement M
 list-rows-spec =

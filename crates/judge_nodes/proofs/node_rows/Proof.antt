@@ -45,22 +45,13 @@ returns-2 : tie.Need-returns-2
 returns-2 c = leaf-node _ _ _ _ (c .before .before .if2 .taken) (c .leaf-rows .ensures)
 
 operator-at-requires : tie.Need-operator-at-requires
-operator-at-requires c κs =
-    let st = c .before .before .before .before .before .before in
-    let fits = subtree-size _ _ _ (st .pre .below) in
-    (omega arith, st .pre .sized .block)
+operator-at-requires c κs = let st = c .before .before .before .before .before .before in (omega (arith, subtree-size _ _ _ (st .pre .below)), st .pre .sized .block)
 
 size-at-requires : tie.Need-size-at-requires
-size-at-requires c κs =
-    let st = c .before .before .before .before .before .before .before in
-    let fits = subtree-size _ _ _ (st .pre .below) in
-    (omega arith, st .pre .sized .block)
+size-at-requires c κs = let st = c .before .before .before .before .before .before .before in (omega (arith, subtree-size _ _ _ (st .pre .below)), st .pre .sized .block)
 
 codes-against-requires : tie.Need-codes-against-requires
-codes-against-requires c κs =
-    let st = c .before .before .before .before .before .before .before .before in
-    let fits = subtree-size _ _ _ (st .pre .below) in
-    (omega arith, st .pre .sized .block)
+codes-against-requires c κs = let st = c .before .before .before .before .before .before .before .before in (omega (arith, subtree-size _ _ _ (st .pre .below)), st .pre .sized .block)
 
 enum-told : tie.Need-enum-told
 enum-told c = search needs
@@ -76,10 +67,9 @@ loop-list-rows-requires c κs =
     let size = c .before .before .before in
     let two = size .before .before in
     let st = two .before .before .before .before .before .before in
-    let fits = subtree-size _ _ _ (st .pre .below) in
-    let more = operator-two _ _ _ (st .pre .below) (two .before .if1 .left) (two .if2 .left) in
     let children = operator-children _ _ _ (st .pre .below) (two .before .if1 .left) (two .if2 .left) in
-    (record { sized = st .pre .sized; children = rw (size .size-at .ensures) children; few = omega arith }, omega arith)
+    let more = operator-two _ _ _ (st .pre .below) (two .before .if1 .left) (two .if2 .left) in
+    (record { sized = st .pre .sized; children = rw (size .size-at .ensures) children; few = omega (arith, subtree-size _ _ _ (st .pre .below)) }, omega arith)
 
 returns-3 : tie.Need-returns-3
 returns-3 c =
@@ -101,10 +91,9 @@ list-rows-requires c κs =
     let size = c .before .before in
     let two = size .before .before in
     let st = two .before .before .before .before .before .before in
-    let fits = subtree-size _ _ _ (st .pre .below) in
     let children = operator-children _ _ _ (st .pre .below) (two .before .if1 .left) (two .if2 .left) in
     let some = operator-some _ _ _ (st .pre .below) (two .before .if1 .left) (two .if2 .left) in
-    (record { sized = st .pre .sized; children = rw (size .size-at .ensures) children; few = omega arith }, omega arith)
+    (record { sized = st .pre .sized; children = rw (size .size-at .ensures) children; few = omega (arith, subtree-size _ _ _ (st .pre .below)) }, omega arith)
 
 returns-4 : tie.Need-returns-4
 returns-4 c =
