@@ -1,9 +1,9 @@
 -- Laws of what is written: one piece after another, and a piece before another.
-use mathlib.Core.Path.{_≡_, refl, sym, _∙_, ap, ap₂, subst, fun-ext}
+use mathlib.Core.Path.{_≡_, refl, sym, _∙_, ap, subst}
 use mathlib.Core.List.{List, [], _∷_, _++_, append-assoc, append-nil}
-use mathlib.Core.Bool.{Bool, true, false, cond}
-use Prim.Native.Nat.{ℕ, zero, suc, _+_, _-_, _*_, _≤_, _<_}
-use native.Mathlib.Nat.{add-zero, zero-add, suc-add, add-suc}
+use mathlib.Core.Bool.{Bool, true, false}
+use Prim.Native.Nat.{ℕ, suc, _+_, _-_, _*_, _≤_, _<_}
+use native.Mathlib.Nat.{add-zero}
 use native.Mathlib.Numerals.{add-one}
 use native.Mathlib.Omega.{arith}
 use lib.ListN.{length, take, drop, length-append, length-drop, take-append-drop}
@@ -14,7 +14,6 @@ use Rattle.rules.specs.Mining.{leaves, flowerOf}
 use Rattle.rules.specs.TreeBlock.{entry, entries, entriesAll}
 use Rattle.rules.specs.Calls.{codeCount, entryCount}
 use Rattle.rules.proofs.Entries.{entriesAll-length}
-use Rattle.code_sets.specs.Bits.{has, listed}
 use Rattle.tree_entries.specs.Writing.{withEntry}
 use Rattle.mine_bases.specs.Writing.{laid, Wrote, WroteTree, WroteAll}
 

@@ -14,7 +14,7 @@ use Rattle.rules.specs.Mining.{isEmpty, project}
 use Rattle.rules.specs.Calls.{codeCount}
 use Rattle.rules.proofs.BoolLaws.{bool-ext, or-right}
 use Rattle.rules.proofs.ListLaws.{has-mem, has-from}
-use Rattle.code_sets.specs.Bits.{has, listed}
+use Rattle.code_sets.specs.Bits.{has}
 use Rattle.code_sets.proofs.BitLaws.{has-zero}
 use Rattle.mine_views.specs.Sublogs.{Set, Sight, Walk, stepBy, walk, done, lacks}
 use Rattle.mine_views.proofs.SetLaws.{has-below}

@@ -8,7 +8,7 @@ use mine_views::View;
 use rules::CODE_COUNT;
 use rules::Operator;
 ghost use mathlib.Core.Path.{_≡_};
-ghost use Prim.Native.Nat.{_≤_, _<_};
+ghost use Prim.Native.Nat.{_≤_};
 ghost use Rattle.rules.specs.Refusals.{Given};
 ghost use Rattle.rules.specs.LogBlock.{logEpisodes};
 ghost use Rattle.rules.specs.Calls.{logSound, codeCount};

@@ -2,7 +2,6 @@ use native.Mathlib.Omega.{arith}
 use mathlib.Core.Path.{ap, _∙_}
 use mathlib.Core.Logic.{⊎-elim}
 use mathlib.Core.Bool.{_||_}
-use Rattle.rules.specs.TreeBlock.{opOf}
 use Rattle.code_sets.specs.Bits.{has}
 use Rattle.mine_views.specs.Sublogs.{sight}
 use Rattle.mine_views.proofs.OperatorLaws.{loop-sight, plain-sight}
