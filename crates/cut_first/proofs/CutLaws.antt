@@ -8,11 +8,11 @@ use native.Mathlib.Omega.{arith}
 use lib.ListN.{length}
 use borrow.Author.Tests.{lt-ltb}
 use Rattle.rules.specs.declared.Operator.{Operator}
-use Rattle.rules.specs.declared.Operator.the-variants.{Choice, Sequence, Parallel}
+use Rattle.rules.specs.declared.Operator.the-variants.{Choice, Sequence, Parallel, Loop}
 use Rattle.rules.specs.Words.{any, all, push, keep, from}
-use Rattle.rules.specs.Trees.{Op, choice, sequence, parallel}
+use Rattle.rules.specs.Trees.{Op, choice, sequence, parallel, loop}
 use Rattle.rules.specs.Mining as mining
-use Rattle.rules.specs.Mining.{Rel, Shape, nothing, cut, orElse, reach, components, join, either, together, headOf, place, placeBy, ordered, notBoth, onlyIf, onBorder, isRedo, choiceParts, sequenceParts, parallelParts, redoParts, loopParts}
+use Rattle.rules.specs.Mining.{Rel, Shape, nothing, flower, cut, orElse, cutOr, reach, components, join, either, together, headOf, place, placeBy, ordered, notBoth, onlyIf, onBorder, isRedo, choiceParts, sequenceParts, parallelParts, redoParts, loopParts}
 use Rattle.rules.specs.Calls.{codeCount}
 use Rattle.rules.proofs.BoolLaws.{bool-cases, clash}
 use Rattle.rules.proofs.ListLaws.{Has, has-any, false-any, keep-all, length-from}
@@ -28,7 +28,7 @@ use Rattle.cut_parts.proofs.SetLaws.{number}
 use Rattle.cut_loop.specs.Roomed.{roomed}
 use Rattle.cut_first.specs.declared.Found.the-variants.{Nothing, By}
 use Rattle.cut_first.specs.declared.Cut.{Cut}
-use Rattle.cut_first.specs.Cuts.{Inside, cutElse, WithoutLoop}
+use Rattle.cut_first.specs.Cuts.{Inside, cutElse, cutShape, WithoutLoop, CutOf}
 
 -- ---- how many
 
@@ -94,27 +94,29 @@ module _ (o : Op) (s : Shape) where
   cut-later (p ∷ []) h = refl
   cut-later (p ∷ q ∷ ps) h = absurd (omega arith)
 
-pub uncut : (o : Op) (s : Shape) (ps : List (List ℕ)) → nothing ≡ orElse o ps s → length ps < 2
+uncut : (o : Op) (s : Shape) (ps : List (List ℕ)) → nothing ≡ orElse o ps s → length ps < 2
 unfolding orElse
 uncut o s [] h = omega arith
 uncut o s (p ∷ []) h = omega arith
 uncut o s (p ∷ q ∷ ps) h = clash (cc)
-
--- the parts of a cut, found and counted
-module _ (o : Op) (s : Shape) (p : Parts) (ps : List (List ℕ)) (size : length (p .sets) ≡ codeCount) (few : p .n ≤ codeCount) (e : listsOf p ≡ ps) where
-  pub cut-found : 2 ≤ p .n → cut o (listsOf p) ≡ orElse o ps s
-  cut-found h = ap (cut o) e ∙ cut-here o s ps (omega (arith, number p ps size few e))
-
-  pub cut-missed : p .n < 2 → s ≡ orElse o ps s
-  cut-missed h = cut-later o s ps (omega (arith, number p ps size few e))
-
--- ---- the first of choice, sequence and parallel: the parts of each, as they are looked for
 
 -- parts that were looked for are those of the rule
 pub record Looked (p : Parts) (ps : List (List ℕ)) : Type 0 where
   pub size : length (p .sets) ≡ codeCount
   pub few : p .n ≤ codeCount
   pub is : listsOf p ≡ ps
+
+pub looked : (p : Parts) (ps : List (List ℕ)) → Table codeCount (p .sets) → (p .n ≤ codeCount) × (listsOf p ≡ ps) → Looked p ps
+looked p ps t e = record { size = t .size; few = e .0; is = e .1 }
+
+module _ (o : Op) (s : Shape) {p : Parts} {ps : List (List ℕ)} (k : Looked p ps) where
+  cut-found : 2 ≤ p .n → cut o (listsOf p) ≡ orElse o ps s
+  cut-found h = ap (cut o) (k .is) ∙ cut-here o s ps (omega (arith, number p ps (k .size) (k .few) (k .is)))
+
+  cut-missed : p .n < 2 → s ≡ orElse o ps s
+  cut-missed h = cut-later o s ps (omega (arith, number p ps (k .size) (k .few) (k .is)))
+
+-- ---- the first of choice, sequence and parallel: the parts of each, as they are looked for
 
 -- what is left to try after choice
 abbrev afterChoice : mining.Graph → Shape → Shape
@@ -126,35 +128,31 @@ module _ (g : Graph) (kept : ℕ) (ch : Parts) (choices : Looked ch (choiceParts
       record {
         few = choices .few;
         two = h;
-        shape = λ i s. cut-found choice (afterChoice (meant g kept) s) ch (choiceParts (meant g kept)) (choices .size) (choices .few) (choices .is) h;
+        shape = λ i s. cut-found choice (afterChoice (meant g kept) s) choices h;
       }
 
   module _ (none : ch .n < 2) (se : Parts) (sequences : Inside g kept → Looked se (sequenceParts (meant g kept))) (few : se .n ≤ codeCount) where
     no-choice : (s : Shape) → afterChoice (meant g kept) s ≡ orElse choice (choiceParts (meant g kept)) (afterChoice (meant g kept) s)
-    no-choice s = cut-missed choice (afterChoice (meant g kept) s) ch (choiceParts (meant g kept)) (choices .size) (choices .few) (choices .is) none
+    no-choice s = cut-missed choice (afterChoice (meant g kept) s) choices none
 
     pub first-sequence : 2 ≤ se .n → WithoutLoop g kept (record { found = By Sequence; parts = se })
     first-sequence h =
         record {
           few = few;
           two = h;
-          shape = λ i s.
-              let k = sequences i in
-              cut-found sequence (orElse parallel (parallelParts (meant g kept)) s) se (sequenceParts (meant g kept)) (k .size) (k .few) (k .is) h ∙ no-choice s;
+          shape = λ i s. cut-found sequence (orElse parallel (parallelParts (meant g kept)) s) (sequences i) h ∙ no-choice s;
         }
 
     module _ (later : se .n < 2) (pa : Parts) (parallels : Looked pa (parallelParts (meant g kept))) where
       no-sequence : Inside g kept → (s : Shape) → orElse parallel (parallelParts (meant g kept)) s ≡ orElse choice (choiceParts (meant g kept)) (afterChoice (meant g kept) s)
-      no-sequence i s =
-          let k = sequences i in
-          cut-missed sequence (orElse parallel (parallelParts (meant g kept)) s) se (sequenceParts (meant g kept)) (k .size) (k .few) (k .is) later ∙ no-choice s
+      no-sequence i s = cut-missed sequence (orElse parallel (parallelParts (meant g kept)) s) (sequences i) later ∙ no-choice s
 
       pub first-parallel : 2 ≤ pa .n → WithoutLoop g kept (record { found = By Parallel; parts = pa })
       first-parallel h =
           record {
             few = parallels .few;
             two = h;
-            shape = λ i s. cut-found parallel s pa (parallelParts (meant g kept)) (parallels .size) (parallels .few) (parallels .is) h ∙ no-sequence i s;
+            shape = λ i s. cut-found parallel s parallels h ∙ no-sequence i s;
           }
 
       pub none-of-three : pa .n < 2 → WithoutLoop g kept (record { found = Nothing; parts = pa })
@@ -162,7 +160,7 @@ module _ (g : Graph) (kept : ℕ) (ch : Parts) (choices : Looked ch (choiceParts
           record {
             few = parallels .few;
             two = tt;
-            shape = λ i s. cut-missed parallel s pa (parallelParts (meant g kept)) (parallels .size) (parallels .few) (parallels .is) h ∙ no-sequence i s;
+            shape = λ i s. cut-missed parallel s parallels h ∙ no-sequence i s;
           }
 
 -- ---- one code alone has no choice, sequence or parallel cut
@@ -199,8 +197,26 @@ later-alone g l s =
     ∙ cut-later sequence (orElse parallel (parallelParts g) s) (sequenceParts g) (omega (arith, length-ordered (reach g) (components (together (reach g)) (g .codes))))
     ∙ cut-later choice (orElse sequence (sequenceParts g) (orElse parallel (parallelParts g) s)) (choiceParts g) a
 
-pub later-choice : (g : mining.Graph) → Later g → length (choiceParts g) < 2
+later-choice : (g : mining.Graph) → Later g → length (choiceParts g) < 2
 later-choice g h = uncut choice (orElse sequence (sequenceParts g) (orElse parallel (parallelParts g) nothing)) (choiceParts g) (h nothing)
+
+-- the loop, where there is none of the first three
+module _ (g : Graph) (kept : ℕ) (later : Inside g kept → Later (meant g kept)) (lo : Parts) (k : Looked lo (roomed (meant g kept))) where
+  loops : Inside g kept → Looked lo (loopParts (meant g kept))
+  unfolding meant
+  loops i = record { size = k .size; few = k .few; is = k .is ∙ room (meant g kept) (length-listed codeCount kept) (later-choice (meant g kept) (later i)) }
+
+  pub first-loop : 2 ≤ lo .n → CutOf g kept (record { found = By Loop; parts = lo })
+  unfolding cutShape cutOr
+  first-loop h =
+      let none = flower (listed codeCount kept) in
+      record { few = k .few; two = h; shape = λ i. cut-found loop none (loops i) h ∙ later i (orElse loop (loopParts (meant g kept)) none) }
+
+  pub none-of-four : lo .n < 2 → CutOf g kept (record { found = Nothing; parts = lo })
+  unfolding cutShape cutOr
+  none-of-four h =
+      let none = flower (listed codeCount kept) in
+      record { few = k .few; two = tt; shape = λ i. cut-missed loop none (loops i) h ∙ later i (orElse loop (loopParts (meant g kept)) none) }
 
 -- how many codes a set holds
 counted-from : (p : ℕ → Bool) (n i : ℕ) → length (keep p (from i n)) ≡ count n (λ j. p (i + j))
@@ -223,5 +239,12 @@ count-listed m x = counted-from (has x) m 0 ∙ ap (count m) (fun-ext (λ (j : �
 pub cut-none : (c : Cut) → c .found ≡ Nothing → (s : Shape) → cutElse c s ≡ s
 cut-none c e s = rw e refl
 
-pub cut-some : (c : Cut) (o : Operator) → c .found ≡ By o → (s t : Shape) → cutElse c s ≡ cutElse c t
-cut-some c o e s t = rw e refl
+pub cut-some : (c : Cut) (o : Operator) → c .found ≡ By o → (g : Graph) (kept : ℕ) → WithoutLoop g kept c → CutOf g kept c
+unfolding cutShape cutOr
+cut-some c o e g kept w =
+    let none = flower (listed codeCount kept) in
+    record {
+      few = w .few;
+      two = w .two;
+      shape = λ i. (let same : cutElse c none ≡ cutElse c (orElse loop (loopParts (meant g kept)) none) = rw e refl in same) ∙ w .shape i (orElse loop (loopParts (meant g kept)) none);
+    }

@@ -1,14 +1,11 @@
 use native.Mathlib.Omega.{arith}
 use mathlib.Core.Path.{sym, _∙_}
 use mathlib.Core.Logic.{⊎-elim}
-use Rattle.rules.specs.Trees.{loop}
-use Rattle.rules.specs.Mining.{flower, orElse, cutOr, loopParts}
 use Rattle.rules.specs.Calls.{codeCount}
-use Rattle.code_sets.specs.Bits.{listed}
 use Rattle.graph_rows.specs.Edges.{meant}
 use Rattle.graph_rows.proofs.TableLaws.{owned-field}
-use Rattle.cut_first.specs.Cuts.{Inside, cutShape}
-use Rattle.cut_first.proofs.CutLaws.{length-listed, room, cut-found, cut-missed, Later, later-alone, later-choice, count-listed, cut-none, cut-some}
+use Rattle.cut_first.specs.Cuts.{Inside}
+use Rattle.cut_first.proofs.CutLaws.{looked, first-loop, none-of-four, Later, later-alone, count-listed, cut-none, cut-some}
 use borrow.Author.Needs.{needs}
 use Rattle.cut_first.proofs.cut_of.Statement.{statement}
 use Rattle.cut_first.proofs.cut_of.Tie as tie
@@ -26,18 +23,7 @@ enum-told : tie.Need-enum-told
 enum-told c = search needs
 
 returns : tie.Need-returns
-unfolding cutShape cutOr
-returns c =
-    let a = c .before .before .before .before .before .before .before .args in
-    let kept = a .keep .bits in
-    let g = meant (a .g) kept in
-    let cu = c .before .before .cut-without-loop in
-    record {
-      few = cu .ensures .few;
-      two = cu .ensures .two;
-      shape = λ i. cut-some (cu .result) _ (c .enum-told .given .1) (flower (listed codeCount kept)) (orElse loop (loopParts g) (flower (listed codeCount kept)))
-          ∙ cu .ensures .shape i (orElse loop (loopParts g) (flower (listed codeCount kept)));
-    }
+returns c = let cu = c .before .before .cut-without-loop in cut-some (cu .result) _ (c .enum-told .given .1) _ _ (cu .ensures)
 
 enum-told-2 : tie.Need-enum-told-2
 enum-told-2 c = search needs
@@ -56,34 +42,14 @@ loop-parts-requires : tie.Need-loop-parts-requires
 loop-parts-requires c κs = search needs
 
 returns-2 : tie.Need-returns-2
-unfolding cutShape cutOr meant
 returns-2 c =
-    let a = c .before .before .before .before .before .before .before .args in
-    let kept = a .keep .bits in
-    let g = meant (a .g) kept in
     let lo = c .before .before .loop-parts in
-    let size = owned-field (lo .result .sets) _ (lo .ok .1 .1 .1 .0) .size in
-    record {
-      few = lo .ensures .0;
-      two = c .if2 .taken;
-      shape = λ i. cut-found loop (flower (listed codeCount kept)) (lo .result) (loopParts g) size (lo .ensures .0) (lo .ensures .1 ∙ room g (length-listed codeCount kept) (later-choice g (later (c .before .before .before) i))) (c .if2 .taken)
-          ∙ later (c .before .before .before) i (orElse loop (loopParts g) (flower (listed codeCount kept)));
-    }
+    first-loop _ _ (later (c .before .before .before)) (lo .result) (looked (lo .result) _ (owned-field (lo .result .sets) _ (lo .ok .1 .1 .1 .0)) (lo .ensures)) (c .if2 .taken)
 
 returns-3 : tie.Need-returns-3
-unfolding cutShape cutOr meant
 returns-3 c =
-    let a = c .before .before .before .before .before .before .before .args in
-    let kept = a .keep .bits in
-    let g = meant (a .g) kept in
     let lo = c .before .before .loop-parts in
-    let size = owned-field (lo .result .sets) _ (lo .ok .1 .1 .1 .0) .size in
-    record {
-      few = lo .ensures .0;
-      two = tt;
-      shape = λ i. cut-missed loop (flower (listed codeCount kept)) (lo .result) (loopParts g) size (lo .ensures .0) (lo .ensures .1 ∙ room g (length-listed codeCount kept) (later-choice g (later (c .before .before .before) i))) (c .if2 .left)
-          ∙ later (c .before .before .before) i (orElse loop (loopParts g) (flower (listed codeCount kept)));
-    }
+    none-of-four _ _ (later (c .before .before .before)) (lo .result) (looked (lo .result) _ (owned-field (lo .result .sets) _ (lo .ok .1 .1 .1 .0)) (lo .ensures)) (c .if2 .left)
 
 pub cut-of-spec : {M : Type 1} → statement M
 cut-of-spec =
