@@ -37,9 +37,9 @@ fn entry_numbers(argument: u8, size: u8, out: &mut [u8], at: usize) -> usize
     ensures { λ r. ⌜ Wrote 8 (now (out .entry)) at (entryNumbers argument size) (now (out .exit)) r ⌝ }
 {
     let argued = text_writing::number(out, at, argument as usize, 3);
-    let spaced = text_writing::byte(out, argued, 32);
+    let spaced = text_writing::byte(out, argued, b' ');
     let sized = text_writing::number(out, spaced, size as usize, 3);
-    text_writing::byte(out, sized, 10)
+    text_writing::byte(out, sized, b'\n')
 }
 
 // The line of entry v: at most 17 bytes.
@@ -73,6 +73,6 @@ pub fn write_listing(tree: &[u8], nodes: usize, out: &mut [u8]) -> usize
 {
     let named = text_writing::text(out, 0, b"nodes ");
     let counted = text_writing::number(out, named, nodes, 3);
-    let ended = text_writing::byte(out, counted, 10);
+    let ended = text_writing::byte(out, counted, b'\n');
     entry_lines(tree, nodes, out, ended)
 }

@@ -13,7 +13,7 @@ pub fn write_refusal(refused: u8, place: usize, out: &mut [u8]) -> usize
     let numbered = text_writing::number(out, named, refused as usize, 3);
     let spaced = text_writing::text(out, numbered, b" at ");
     let placed = text_writing::number(out, spaced, place, 5);
-    text_writing::byte(out, placed, 10)
+    text_writing::byte(out, placed, b'\n')
 }
 
 // A verdict's line: at most 13 bytes.
