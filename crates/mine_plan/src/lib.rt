@@ -83,10 +83,11 @@ pub fn planned(log: &[u8], v: View) -> Plan
     ensures { λ r. ⌜ Planned (logEpisodes 1 (now (log .entry))) v r ⌝ }
 {
     let keep = v.keep;
+    let bare = v.bare;
     if keep.bits == 0 {
         return uncut(Base::Silent);
     }
-    if v.bare {
+    if bare {
         return uncut(Base::Flower);
     }
     let g = mine_graph::graph_of(log, v);
