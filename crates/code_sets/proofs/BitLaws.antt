@@ -1,6 +1,6 @@
 -- The laws of `has`. Every one is over anyBelow number, so over any width; only `not`, `ext`, `ones` and `trailing` name the width.
 use Prim.Native.Nat.{ℕ, zero, suc, _+_, _-_, _*_, _/_, _%_, _^_, _≤_, _<_}
-use native.Mathlib.Nat.{mod-lt, zero-lt-suc, div-one, mod-eq-of-lt, one-mul, pow-suc, mul-mod-left, mul-div-cancel, zero-div, div-lt-iff-lt-mul, lt-of-lt-of-le, mul-one, le-of-suc-le-suc, sub-zero}
+use native.Mathlib.Nat.{mod-lt, zero-lt-suc, div-one, mod-eq-of-lt, one-mul, pow-suc, mul-mod-left, mul-div-cancel, zero-div, div-lt-iff-lt-mul, lt-of-lt-of-le, sub-zero}
 use native.Mathlib.Numerals.{one-add}
 use native.Mathlib.Omega.{arith}
 use mathlib.Core.Path.{_≡_, refl, sym, ap, ap₂, _∙_, subst, fun-ext}
@@ -12,7 +12,7 @@ use lib.Bits.{bitAnd, bitOr, bitXor, and-shr, or-shr, xor-shr, and-mod, or-mod, 
 use lib.Pow.{shr-shr, pow-pos, pow-lt, pow-mono}
 use lib.Count.{ones, ones-step, trailingZeros, under}
 use lib.Arith.{lt-one}
-use Rattle.code_sets.specs.Bits.{has, anyBelow, count, least}
+use Rattle.code_sets.specs.Bits.{has, count, least}
 
 -- a digit is 0 or 1
 digit : (n : ℕ) → n < 2 → (n ≡ 0) ⊎ (n ≡ 1)

@@ -1,8 +1,8 @@
 -- What `least` and `count` give a caller.
 use Prim.Native.Nat.{ℕ, zero, suc, _+_, _≤_, _<_}
 use native.Mathlib.Omega.{arith}
-use mathlib.Core.Path.{_≡_, refl, sym, ap, ap₂, _∙_, subst, fun-ext}
-use mathlib.Core.Bool.{Bool, true, false, cond, _||_, _&&_, not, false≢true}
+use mathlib.Core.Path.{_≡_, refl, sym, ap}
+use mathlib.Core.Bool.{Bool, true, false, cond, _||_, false≢true}
 use Rattle.code_sets.specs.Bits.{count, least}
 
 pub least-le : (n : ℕ) (p : ℕ → Bool) → least n p ≤ n

@@ -1,11 +1,11 @@
 -- `x & (x - 1)` drops the lowest place, which `trailing_zeros` names.
-use Prim.Native.Nat.{ℕ, zero, suc, _+_, _-_, _*_, _/_, _%_, _^_, _≤_, _<_}
+use Prim.Native.Nat.{ℕ, zero, suc, _-_, _*_, _/_, _%_, _^_, _<_}
 use native.Mathlib.Nat.{pow-suc}
 use native.Mathlib.Omega.{arith}
 use mathlib.Core.Path.{_≡_, refl, sym, ap, ap₂, _∙_, subst}
 use mathlib.Core.Logic.{_⊎_, inl, inr, ⊎-elim}
-use mathlib.Core.Bool.{Bool, true, false, _||_, _&&_, not, false≢true}
-use lib.Dec.{eqb, eqb·suc-suc, eqb·zero-suc, eqb·suc-zero}
+use mathlib.Core.Bool.{Bool, true, false, _||_, _&&_, not}
+use lib.Dec.{eqb, eqb·suc-suc, eqb·suc-zero}
 use borrow.Author.Tests.{eq-eqb, ne-eqb, eqb-true}
 use lib.Bits.{bitAnd}
 use lib.Count.{trailingZeros, under}
@@ -13,7 +13,7 @@ use lib.Arith.{lt-one}
 use Rattle.code_sets.specs.Bits.{has, anyBelow}
 use Rattle.code_sets.proofs.BitLaws.{has-and, has-low, has-step, digit-mod}
 use Rattle.code_sets.proofs.AnyLaws.{any-some, any-here}
-use Rattle.rules.proofs.BoolLaws.{and-both, and-cases, or-cases, or-right, bool-ext, bool-cases}
+use Rattle.rules.proofs.BoolLaws.{and-both, and-cases, or-cases, or-right, bool-ext}
 
 and-same : (a b : Bool) → a ≡ b → (a && b) ≡ (a && true)
 and-same true b e = sym e

@@ -11,7 +11,7 @@ use lib.Bits.{bitOr}
 use borrow.Author.Tests.{eq-eqb, ne-eqb}
 use Rattle.rules.specs.Words.{pick, any, push, keep, each, flat, mem, from}
 use Rattle.rules.specs.Mining.{Rel, join, components}
-use Rattle.rules.proofs.BoolLaws.{bool-ext, bool-cases, not-both, or-left, or-off, or-assoc, and-both, and-cases}
+use Rattle.rules.proofs.BoolLaws.{bool-ext, bool-cases, or-left, or-off, or-assoc, and-both, and-cases}
 use Rattle.rules.proofs.ListLaws.{Has, any-has, has-any, has-keep, flat-has, has-flat, mem-has, has-mem, each-has, has-each, keep-both, keep-ext, keep-none, keep-append, from-has, from-down}
 use Rattle.rules.proofs.FilterLaws.{any-ext, keep-each, from-append}
 use Rattle.code_sets.specs.Bits.{has, listed}

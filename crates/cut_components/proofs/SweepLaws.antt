@@ -9,7 +9,7 @@ use lib.Bits.{bitAnd, bitOr, bitXor, and-lt, xor-lt}
 use Rattle.code_sets.specs.Bits.{has}
 use Rattle.code_sets.proofs.BitLaws.{has-and, has-xor, has-not}
 use Rattle.cut_parts.specs.declared.Parts.{Parts}
-use Rattle.cut_parts.specs.Sets.{setsOf, meets}
+use Rattle.cut_parts.specs.Sets.{setsOf}
 use Rattle.cut_parts.proofs.SetLaws.{rest, rest-none, meets-on, meets-off}
 use Rattle.cut_components.specs.Joined.{joinOn}
 

@@ -1,9 +1,9 @@
 -- When there is a cut, and how many parts and codes it takes. Over any number of codes m.
-use mathlib.Core.Path.{_≡_, refl, sym, _∙_, ap, ap₂, fun-ext}
+use mathlib.Core.Path.{_≡_, refl, sym, _∙_, ap}
 use mathlib.Core.Logic.{_⊎_, inl, inr, ⊎-elim}
 use mathlib.Core.List.{List, [], _∷_}
-use mathlib.Core.Bool.{Bool, true, false, cond, not, _&&_}
-use Prim.Native.Nat.{ℕ, zero, suc, _+_, _≤_, _<_}
+use mathlib.Core.Bool.{Bool, true, false, not, _&&_}
+use Prim.Native.Nat.{ℕ, suc, _≤_, _<_}
 use native.Mathlib.Omega.{arith}
 use lib.ListN.{length}
 use borrow.Author.Tests.{lt-ltb}
@@ -16,7 +16,7 @@ use Rattle.rules.specs.Mining.{Rel, Shape, nothing, flower, cut, orElse, cutOr,
 use Rattle.rules.specs.Calls.{codeCount}
 use Rattle.rules.proofs.BoolLaws.{bool-cases, clash}
 use Rattle.rules.proofs.ListLaws.{Has, has-any, false-any, keep-all, length-from}
-use Rattle.code_sets.specs.Bits.{has, count, listed}
+use Rattle.code_sets.specs.Bits.{has, listed}
 use Rattle.graph_rows.specs.declared.Graph.{Graph}
 use Rattle.graph_rows.specs.Edges.{meant}
 use Rattle.graph_rows.proofs.TableLaws.{Table}
@@ -217,22 +217,6 @@ module _ (g : Graph) (kept : ℕ) (later : Inside g kept → Later (meant g kept
   none-of-four h =
       let none = flower (listed codeCount kept) in
       record { few = k .few; two = tt; shape = λ i. cut-missed loop none (loops i) h ∙ later i (orElse loop (loopParts (meant g kept)) none) }
-
--- how many codes a set holds
-counted-from : (p : ℕ → Bool) (n i : ℕ) → length (keep p (from i n)) ≡ count n (λ j. p (i + j))
-unfolding count
-counted-from p zero i = refl
-counted-from p (suc n) i =
-    one (p i) (keep p (from (suc i) n)) ∙ ap₂ (λ (b : Bool) (k : ℕ). cond b 1 0 + k) (ap p (let e : i ≡ i + 0 = omega arith in e))
-    (counted-from p n (suc i) ∙ ap (count n) (fun-ext (λ (j : ℕ). ap p (let e : suc i + j ≡ i + suc j = omega arith in e))))
-  where
-    one : (b : Bool) (xs : List ℕ) → length (push b i xs) ≡ cond b 1 0 + length xs
-    one true xs = omega arith
-    one false xs = omega arith
-
-pub count-listed : (m x : ℕ) → length (listed m x) ≡ count m (has x)
-unfolding listed
-count-listed m x = counted-from (has x) m 0 ∙ ap (count m) (fun-ext (λ (j : ℕ). ap (has x) (let e : 0 + j ≡ j = omega arith in e)))
 
 -- ---- what a cut says
 

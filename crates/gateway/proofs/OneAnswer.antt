@@ -1,11 +1,10 @@
 -- No second answer meets a call's promise: the answer and every lent cell afterwards follow from the input alone, refusals too.
-use mathlib.Core.Path.{_≡_, refl, sym, ap, _∙_}
+use mathlib.Core.Path.{_≡_, sym, ap, _∙_}
 use mathlib.Core.List.{List}
-use Prim.Native.Nat.{ℕ, _+_, _<_}
-use lib.ListN.{length, getD}
-use Rattle.rules.specs.Calls.{reading, handedOn, checking, AddSays, MineSays, JudgeSays}
+use Prim.Native.Nat.{ℕ, _<_}
+use lib.ListN.{getD}
+use Rattle.rules.specs.Calls.{reading, handedOn, checking, MineSays}
 use Rattle.rules.specs.declared.Answer.{Answer}
-use Rattle.rules.specs.declared.Verdict.{Verdict}
 use Rattle.log_adding.proofs.AddLaws.{add-unique}
 use Rattle.judge_call.proofs.OneAnswer.{judge-one}
 use Rattle.gateway.specs.Packed.{packed, packedVerdict, AddPacked, MinePacked, JudgePacked}

@@ -4,7 +4,7 @@ use Prim.Native.Nat.{ℕ, _+_, _*_, _%_}
 use Rattle.rules.specs.declared.Answer.{Answer}
 use Rattle.rules.specs.declared.Answer.the-variants.{Gives, Refused}
 use Rattle.rules.specs.declared.Verdict.{Verdict}
-use Rattle.rules.specs.declared.Verdict.the-variants.{Fits, Misfit, Refused as Dismissed}
+use Rattle.rules.specs.declared.Verdict.the-variants.{Refused as Dismissed}
 use Rattle.gateway.specs.Packed.{packed, packedVerdict}
 
 pub packed-gives : (a : Answer) (n : ℕ) → a ≡ Gives n → n % 4294967296 ≡ packed a

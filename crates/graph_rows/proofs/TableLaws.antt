@@ -3,7 +3,7 @@ use mathlib.Core.Path.{_≡_, refl, sym, ap, ap₂, subst, _∙_}
 use mathlib.Core.Logic.{_⊎_, inl, inr, ⊎-elim}
 use mathlib.Core.List.{List, [], _∷_, map, map-id}
 use mathlib.Core.Bool.{Bool, true, false, _||_, _&&_}
-use Prim.Native.Nat.{ℕ, zero, suc, _+_, _*_, _/_, _%_, _^_, _≤_, _<_}
+use Prim.Native.Nat.{ℕ, zero, suc, _+_, _*_, _%_, _^_, _≤_, _<_}
 use native.Mathlib.Nat.{zero-mul, zero-mod}
 use native.Mathlib.Omega.{arith}
 use borrow.Author.Count.{below-more}
@@ -21,7 +21,7 @@ use denote.Plain.{UInt}
 use denote.Laws.{Is}
 use Rattle.rules.specs.Calls.{codeCount}
 use Rattle.code_sets.specs.Bits.{has}
-use Rattle.code_sets.proofs.BitLaws.{has-zero, has-high, has-or, has-pow, one-shl, digit-mod, lt-or-le}
+use Rattle.code_sets.proofs.BitLaws.{has-zero, has-high, has-or, has-pow, one-shl, lt-or-le}
 use Rattle.rules.proofs.BoolLaws.{bool-cases, not-both, or-off}
 use Rattle.graph_rows.specs.Edges.{edgeOf}
 

@@ -15,7 +15,7 @@ use Rattle.code_sets.specs.Bits.{has}
 use Rattle.code_sets.specs.declared.CodeSet.{CodeSet}
 use Rattle.graph_rows.specs.declared.Graph.{Graph}
 use Rattle.graph_rows.specs.Edges.{meant}
-use Rattle.mine_views.specs.Sublogs.{Sight, walk}
+use Rattle.mine_views.specs.Sublogs.{walk}
 use Rattle.mine_views.proofs.SetLaws.{has-below}
 use Rattle.mine_trails.specs.Growing.{withPieces, trailed, addsNothing, graphOf}
 use Rattle.mine_trails.proofs.TrailLaws.{noted-event, noted-break, turn-pass, end-again}

@@ -9,7 +9,7 @@ use lib.Dec.{eqb}
 use lib.ListN.{length, getD, take, drop, drop-of-length-le}
 use lib.Seq.{drop-cons, getD-take, length-take-le}
 use Rattle.rules.specs.declared.Operator.{Operator}
-use Rattle.rules.specs.Words.{each, keep, from}
+use Rattle.rules.specs.Words.{each, keep}
 use Rattle.rules.specs.Trees.{Op, Tree, Forest, node, size, sizes, children}
 use Rattle.rules.specs.Mining.{Log, cut, graph, shape, split, grow, mined, occurring, partsOf}
 use Rattle.rules.specs.TreeBlock.{opOf, kindOf, entry, entries, entriesAll}
@@ -19,7 +19,7 @@ use Rattle.rules.proofs.Entries.{entries-length, entriesAll-length}
 use Rattle.rules.proofs.Splits.{split-occurring}
 use Rattle.rules.proofs.SameEpisodes.{occurring-same}
 use Rattle.rules.proofs.Shapes.{Taken, cut-taken, smaller}
-use Rattle.code_sets.specs.Bits.{has, listed}
+use Rattle.code_sets.specs.Bits.{listed}
 use Rattle.tree_entries.specs.Writing.{withEntry}
 use Rattle.mine_views.specs.declared.View.{View}
 use Rattle.mine_views.specs.Sublogs.{Sight, shown, sight, sublog, Tight, partSight}

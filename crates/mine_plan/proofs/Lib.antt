@@ -1,3 +1,3 @@
-pub mod CountLaws
+pub mod AloneLaws
 pub mod PlanLaws
 pub mod PlannedLaws

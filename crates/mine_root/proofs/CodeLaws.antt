@@ -1,6 +1,6 @@
 -- What each turn of a loop over one record's codes keeps of the codes that occur.
 use mathlib.Core.Path.{_≡_, refl, sym, _∙_, ap}
-use mathlib.Core.List.{List, [], _∷_}
+use mathlib.Core.List.{List, _∷_}
 use mathlib.Core.Bool.{Bool, true, false, _&&_, _||_, true≢false, false≢true}
 use Prim.Native.Nat.{ℕ, _+_, _<_, _≤_, _-_, _^_}
 use native.Mathlib.Numerals.{add-one}

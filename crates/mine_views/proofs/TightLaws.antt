@@ -7,7 +7,7 @@ use Prim.Native.Nat.{ℕ, _+_}
 use native.Mathlib.Omega.{arith}
 use lib.Dec.{ltb}
 use borrow.Author.Tests.{ltb-true, lt-ltb}
-use Rattle.rules.specs.Words.{any, all, keep, each, flat, mem, from}
+use Rattle.rules.specs.Words.{any, keep, each, flat, mem, from}
 use Rattle.rules.specs.Trees.{Op, choice, sequence, parallel, loop}
 use Rattle.rules.specs.Mining.{Episode, Log, isEmpty, occurring, graph, startsWith, endsWith, partsOf, split, project, mined}
 use Rattle.rules.proofs.BoolLaws.{bool-cases, and-both, and-cases, bool-ext, not-both}

@@ -1,12 +1,11 @@
 -- What the programs print, as ASCII bytes.
 use mathlib.Core.List.{List, [], _∷_, _++_}
-use mathlib.Core.Bool.{Bool, true, false}
+use mathlib.Core.Bool.{Bool}
 use Prim.Native.Nat.{ℕ, zero, suc, _+_, _/_, _%_}
-use lib.ListN.{length}
 use lib.Dec.{ltb, eqb}
-use Rattle.rules.specs.Words.{pick, each, flat, from}
-use Rattle.rules.specs.Trees.{Tree, size}
-use Rattle.rules.specs.TreeBlock.{kindAt, argumentAt, sizeAt, treeBlock}
+use Rattle.rules.specs.Words.{pick}
+use Rattle.rules.specs.Trees.{size}
+use Rattle.rules.specs.TreeBlock.{kindAt, argumentAt, sizeAt}
 
 -- n in decimal, of at most d digits, without leading zeros
 unfoldable pub decimal : ℕ → ℕ → List ℕ

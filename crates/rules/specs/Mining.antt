@@ -1,9 +1,9 @@
 -- From log to tree, in the page's words and order. m is the number of codes: the codes are 0 to m - 1.
-use mathlib.Core.List.{List, [], _∷_, _++_}
+use mathlib.Core.List.{List, [], _∷_}
 use mathlib.Core.Bool.{Bool, true, false, not, _&&_, _||_, Bool·beq}
 use Prim.Native.Nat.{ℕ, zero, suc}
 use lib.Dec.{eqb}
-use Rattle.rules.specs.Words.{any, all, push, keep, each, flat, mem, implies, from}
+use Rattle.rules.specs.Words.{any, all, keep, each, flat, mem, implies, from}
 use Rattle.rules.specs.Trees.{Op, choice, sequence, parallel, loop, Tree, silent, leaf, node, Forest, none, more}
 
 abbrev pub Episode : Type 0

@@ -1,14 +1,12 @@
 -- Tree blocks: a tree as entries of four bytes in preorder, and the rules by which a block is well formed.
 -- `limit` is the number of entries, m the number of codes.
-use mathlib.Core.Path.{_≡_}
 use mathlib.Core.List.{List, [], _∷_, _++_}
-use mathlib.Core.Bool.{Bool, true, false}
-use Prim.Native.Nat.{ℕ, zero, suc, _+_, _-_, _*_, _≤_, _<_}
-use lib.ListN.{length, getD, take, drop}
-use lib.Dec.{ltb, leb, eqb}
-use Rattle.rules.specs.Words.{pick, mem, zeros, part}
+use Prim.Native.Nat.{ℕ, zero, suc, _+_, _-_, _*_}
+use lib.ListN.{length, getD}
+use lib.Dec.{ltb, eqb}
+use Rattle.rules.specs.Words.{pick, mem, zeros}
 use Rattle.rules.specs.Trees.{Op, choice, sequence, parallel, loop, Tree, silent, leaf, node, Forest, none, more, size, sizes, children}
-use Rattle.rules.specs.LogBlock.{sealed, firstSet}
+use Rattle.rules.specs.LogBlock.{sealed}
 use Rattle.rules.specs.declared.Operator.{Operator}
 use Rattle.rules.specs.declared.Operator.the-variants.{Choice, Sequence, Parallel, Loop}
 

@@ -1,8 +1,8 @@
 -- Process trees, their size and their leaves, and their language by section 3 of 000.
-use mathlib.Core.Path.{_≡_, refl}
+use mathlib.Core.Path.{_≡_}
 use mathlib.Core.List.{List, [], _∷_, _++_}
 use mathlib.Core.Logic.{_⊎_}
-use Prim.Native.Nat.{ℕ, zero, suc, _+_}
+use Prim.Native.Nat.{ℕ, suc, _+_}
 
 pub data Op : Type 0 where
   choice sequence parallel loop : Op

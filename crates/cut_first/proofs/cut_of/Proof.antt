@@ -5,7 +5,8 @@ use Rattle.rules.specs.Calls.{codeCount}
 use Rattle.graph_rows.specs.Edges.{meant}
 use Rattle.graph_rows.proofs.TableLaws.{owned-field}
 use Rattle.cut_first.specs.Cuts.{Inside}
-use Rattle.cut_first.proofs.CutLaws.{looked, first-loop, none-of-four, Later, later-alone, count-listed, cut-none, cut-some}
+use Rattle.code_sets.proofs.ListedLaws.{listed-count}
+use Rattle.cut_first.proofs.CutLaws.{looked, first-loop, none-of-four, Later, later-alone, cut-none, cut-some}
 use borrow.Author.Needs.{needs}
 use Rattle.cut_first.proofs.cut_of.Statement.{statement}
 use Rattle.cut_first.proofs.cut_of.Tie as tie
@@ -35,7 +36,7 @@ unfolding meant
 later c i =
     let a = c .before .before .before .before .args in
     ⊎-elim (λ w s. sym (cut-none (w .1 .result) (w .3 .given .1) s) ∙ w .1 .ensures .shape i s)
-    (λ w. later-alone (meant (a .g) (a .keep .bits)) (omega (arith, w .left, c .before .count .ensures, count-listed codeCount (a .keep .bits))))
+    (λ w. later-alone (meant (a .g) (a .keep .bits)) (omega (arith, w .left, c .before .count .ensures, listed-count codeCount (a .keep .bits))))
     (c .if1 .came)
 
 loop-parts-requires : tie.Need-loop-parts-requires

@@ -2,7 +2,7 @@ use mathlib.Core.Path.{sym, _∙_}
 use native.Mathlib.Omega.{arith}
 use Rattle.rules.specs.Calls.{codeCount}
 use Rattle.code_sets.specs.Bits.{listed}
-use Rattle.mine_plan.proofs.CountLaws.{listed-count}
+use Rattle.code_sets.proofs.ListedLaws.{listed-count}
 use Rattle.mine_bases.proofs.WritingLaws.{flower-wrote}
 use borrow.Author.Needs.{needs}
 use Rattle.mine_bases.proofs.flower.Statement.{statement}

@@ -2,8 +2,8 @@ use mathlib.Core.Path.{sym, _∙_}
 use Rattle.rules.specs.Calls.{codeCount}
 use Rattle.code_sets.specs.Bits.{has, listed}
 use Rattle.graph_rows.specs.Edges.{edgeOf}
-use Rattle.mine_plan.proofs.CountLaws.{listed-count}
-use Rattle.mine_plan.proofs.CountLaws.{alone-one, alone-not}
+use Rattle.code_sets.proofs.ListedLaws.{listed-count}
+use Rattle.mine_plan.proofs.AloneLaws.{alone-one, alone-not}
 use borrow.Author.Needs.{needs}
 use Rattle.mine_plan.proofs.alone.Statement.{statement}
 use Rattle.mine_plan.proofs.alone.Tie as tie

@@ -1,7 +1,7 @@
 use Rattle.rules.specs.Calls.{codeCount}
 use Rattle.code_sets.proofs.BitLaws.{has-high}
 use Rattle.code_sets.specs.Bits.{has}
-use mathlib.Core.Path.{sym, refl}
+use mathlib.Core.Path.{sym}
 use borrow.Author.Needs.{needs}
 use Rattle.code_sets.proofs.CodeSet.has.Statement.{statement}
 use Rattle.code_sets.proofs.CodeSet.has.Tie as tie
