@@ -48,7 +48,7 @@ fn only(episode: &[u8], codes: CodeSet) -> bool
     true
 }
 
-// The first 8,128 numbers become zero.
+// The numbers that judging uses become zero.
 fn wipe(work: &mut [u64])
     requires { ⌜ 8128 ≤ length (now work) ⌝ }
     ensures { λ _. ⌜ now (work .exit) ≡ cleared 8128 (now (work .entry)) ⌝ }

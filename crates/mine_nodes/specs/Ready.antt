@@ -9,7 +9,7 @@ use Rattle.rules.specs.Calls.{codeCount, entryCount}
 use Rattle.mine_views.specs.declared.View.{View}
 use Rattle.mine_views.specs.Sublogs.{sight, sublog, Tight}
 
--- a view that may be mined from an entry on: it is tight, and its tree ends by entry 127
+-- a view that may be mined from an entry on: it is tight, and its tree ends by the last entry
 pub record Ready (l : Log) (v : View) (tree : List ℕ) (at : ℕ) : Type 0 where
   pub tight : Tight codeCount (sight v) l
   pub long : length tree ≡ 512

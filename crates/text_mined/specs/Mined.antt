@@ -6,7 +6,7 @@ use Rattle.rules.specs.declared.Answer.{Answer}
 use Rattle.rules.specs.declared.Answer.the-variants.{Gives, Refused}
 use Rattle.rules.specs.Calls.{entryCount}
 
--- a tree block has 127 entries
+-- no more nodes than a tree block has entries
 abbrev pub Listable : Answer → Type 0
 Listable (Gives n) = n ≤ entryCount
 Listable (Refused number place) = Unit {0}

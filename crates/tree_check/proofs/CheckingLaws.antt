@@ -24,7 +24,7 @@ use Rattle.tree_entries.specs.declared.Checked.the-variants.{Upto, Broken}
 use Rattle.tree_entries.specs.Entries.{Agrees}
 use Rattle.tree_check.specs.Checks.{Within, NodeSays, wholeBlock}
 
--- no tree goes past entry 127
+-- no tree goes past the last entry
 within-broken : (b : List ℕ) (x : Sound) → x ≡ rootOf entryCount codeCount b → Within entryCount Broken x → x ≡ broken
 within-broken b (upto next l) e h = let fits = node-holds entryCount codeCount b (suc (2 * entryCount)) 0 next [] l (sym e) .1 .fits in absurd (omega arith)
 within-broken b broken e h = refl

@@ -79,7 +79,7 @@ fn list(tree: &[u8], at: usize, count: u8, end: usize, seen: CodeSet) -> Checked
     }
 }
 
-// The rules for a block of 512 bytes whose check is right: the number of nodes.
+// The rules for a whole block: the number of nodes.
 pub fn formed(tree: &[u8]) -> Answer
     requires { ⌜ length (now tree) ≡ 512 ⌝ }
     ensures { λ r. ⌜ r ≡ formed (now (tree .entry)) ⌝ }
@@ -101,7 +101,7 @@ pub fn formed(tree: &[u8]) -> Answer
     Answer::Gives(next)
 }
 
-// 512 bytes with a right check.
+// Is a block of a tree's length, and its check right?
 fn whole(tree: &[u8]) -> bool
     ensures { λ r. ⌜ r ≡ wholeBlock (now (tree .entry)) ⌝ }
 {

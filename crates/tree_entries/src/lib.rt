@@ -69,7 +69,7 @@ fn silent(at: usize, argument: u8, size: u8, seen: CodeSet) -> Checked
     }
 }
 
-// A code below 32 that no leaf before it has.
+// A code that no leaf before it has.
 fn leaf(at: usize, argument: u8, size: u8, seen: CodeSet) -> Checked
     requires { ⌜ at < entryCount ⌝ }
     ensures { λ r. ⌜ LeafSays at seen (leafRule codeCount at argument size) r ⌝ }
