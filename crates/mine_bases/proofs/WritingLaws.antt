@@ -14,7 +14,7 @@ use Rattle.rules.specs.Mining.{leaves, flowerOf}
 use Rattle.rules.specs.TreeBlock.{entry, entries, entriesAll}
 use Rattle.rules.specs.Calls.{codeCount, entryCount}
 use Rattle.rules.proofs.Entries.{entriesAll-length}
-use Rattle.tree_entries.specs.Writing.{withEntry}
+use Rattle.tree_writing.specs.Writing.{withEntry}
 use Rattle.mine_bases.specs.Writing.{laid, Wrote, WroteTree, WroteAll}
 
 -- nothing written

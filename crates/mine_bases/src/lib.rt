@@ -31,7 +31,7 @@ fn leaf_of(tree: &mut [u8], at: usize, set: CodeSet, c: u8) -> usize
     ensures { λ r. ⌜ WroteAll (leaves (push (has (set .bits) c) c [])) at (now (tree .entry)) r (now (tree .exit)) ⌝ }
 {
     if set.has(c) {
-        tree_entries::put(tree, at, ACTIVITY, c, 1);
+        tree_writing::put(tree, at, ACTIVITY, c, 1);
         return at + 1;
     }
     at
@@ -57,8 +57,8 @@ fn flower(tree: &mut [u8], at: usize, set: CodeSet) -> usize
     ensures { λ r. ⌜ WroteTree (flowerOf (listed codeCount (set .bits))) at (now (tree .entry)) r (now (tree .exit)) ⌝ }
 {
     let n = set.count() as usize;
-    tree_entries::put(tree, at, LOOP, byte(n + 1), byte(n + 2));
-    tree_entries::put(tree, at + 1, SILENT, 0, 1);
+    tree_writing::put(tree, at, LOOP, byte(n + 1), byte(n + 2));
+    tree_writing::put(tree, at + 1, SILENT, 0, 1);
     leaves(tree, at + 2, set)
 }
 
@@ -69,12 +69,12 @@ pub fn base(tree: &mut [u8], at: usize, base: Base, set: CodeSet) -> usize
 {
     match base {
         Base::Silent => {
-            tree_entries::put(tree, at, SILENT, 0, 1);
+            tree_writing::put(tree, at, SILENT, 0, 1);
             at + 1
         }
         Base::Leaf => {
             let c = set.first();
-            tree_entries::put(tree, at, ACTIVITY, c, 1);
+            tree_writing::put(tree, at, ACTIVITY, c, 1);
             at + 1
         }
         Base::Flower => flower(tree, at, set),

@@ -20,7 +20,7 @@ use Rattle.rules.proofs.Splits.{split-occurring}
 use Rattle.rules.proofs.SameEpisodes.{occurring-same}
 use Rattle.rules.proofs.Shapes.{Taken, cut-taken, smaller}
 use Rattle.code_sets.specs.Bits.{listed}
-use Rattle.tree_entries.specs.Writing.{withEntry}
+use Rattle.tree_writing.specs.Writing.{withEntry}
 use Rattle.mine_views.specs.declared.View.{View}
 use Rattle.mine_views.specs.Sublogs.{Sight, shown, sight, sublog, Tight, partSight}
 use Rattle.mine_views.proofs.TightLaws.{tight-below, part-shows, part-tight, part-tree}

@@ -35,10 +35,10 @@ pub fn mine_node(log: &[u8], tree: &mut [u8], v: View, at: usize) -> usize
         next = mine_node(log, tree, w, next);
         i += 1;
     }
-    tree_entries::put(
+    tree_writing::put(
         tree,
         at,
-        tree_entries::kind_of(operator),
+        tree_writing::kind_of(operator),
         mine_bases::byte(n),
         mine_bases::byte(next - at),
     );

@@ -1,2 +1,1 @@
 pub mod EntryLaws
-pub mod WritingLaws

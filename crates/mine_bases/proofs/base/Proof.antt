@@ -4,7 +4,7 @@ use native.Mathlib.Omega.{arith}
 use Rattle.rules.specs.TreeBlock.{entries}
 use Rattle.rules.specs.Calls.{codeCount}
 use Rattle.code_sets.specs.Bits.{listed}
-use Rattle.tree_entries.specs.Writing.{withEntry}
+use Rattle.tree_writing.specs.Writing.{withEntry}
 use Rattle.mine_bases.proofs.WritingLaws.{put-wrote, leaves-sizes}
 use borrow.Author.Needs.{needs}
 use Rattle.mine_bases.proofs.base.Statement.{statement}

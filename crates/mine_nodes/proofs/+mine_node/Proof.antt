@@ -18,8 +18,8 @@ use Rattle.mine_nodes.proofs.+mine_node.Lts-mine_node as mine-node-lts
 use Rattle.mine_bases.proofs.base.Reads as base-reads
 use Rattle.mine_bases.proofs.byte.Reads as byte-reads
 use Rattle.mine_plan.proofs.planned.Reads as planned-reads
-use Rattle.tree_entries.proofs.kind_of.Reads as kind-of-reads
-use Rattle.tree_entries.proofs.put.Reads as put-reads
+use Rattle.tree_writing.proofs.kind_of.Reads as kind-of-reads
+use Rattle.tree_writing.proofs.put.Reads as put-reads
 use Rattle.mine_views.proofs.part_of.Reads as part-of-reads
 use Rattle.mine_nodes.proofs.+mine_node.{statement}
 use Rattle.mine_nodes.proofs.+mine_node.Tie.{close}

@@ -1,9 +1,9 @@
 use native.Mathlib.Omega.{arith}
 use lib.ListN.{length-set}
-use Rattle.tree_entries.proofs.WritingLaws.{entry-stored}
+use Rattle.tree_writing.proofs.WritingLaws.{entry-stored}
 use borrow.Author.Needs.{needs}
-use Rattle.tree_entries.proofs.put.Statement.{statement}
-use Rattle.tree_entries.proofs.put.Tie as tie
+use Rattle.tree_writing.proofs.put.Statement.{statement}
+use Rattle.tree_writing.proofs.put.Tie as tie
 
 mul-base : tie.Need-mul-base
 mul-base c = search needs

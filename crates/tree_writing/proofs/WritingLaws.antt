@@ -7,7 +7,7 @@ use lib.ListN.{length, set}
 use lib.Seq.{sets-eq}
 use Rattle.rules.specs.TreeBlock.{entry}
 use Rattle.rules.specs.Calls.{entryCount}
-use Rattle.tree_entries.specs.Writing.{withEntry}
+use Rattle.tree_writing.specs.Writing.{withEntry}
 
 pub entry-stored : (b : List ℕ) (at kind argument size : ℕ) → 512 ≤ length b → at < entryCount →
     set (set (set (set b (at * 4) kind) (at * 4 + 1) argument) (at * 4 + 2) size) (at * 4 + 3) 0 ≡ withEntry b at kind argument size

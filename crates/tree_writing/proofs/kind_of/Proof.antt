@@ -1,6 +1,6 @@
 use borrow.Author.Needs.{needs}
-use Rattle.tree_entries.proofs.kind_of.Statement.{statement}
-use Rattle.tree_entries.proofs.kind_of.Tie as tie
+use Rattle.tree_writing.proofs.kind_of.Statement.{statement}
+use Rattle.tree_writing.proofs.kind_of.Tie as tie
 
 enum-told : tie.Need-enum-told
 enum-told c = search needs
