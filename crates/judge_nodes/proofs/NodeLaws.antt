@@ -10,23 +10,23 @@ use denote.Enum.Declared.{tagOf}
 use Rattle.rules.specs.Words.{mem, Has}
 use Rattle.rules.specs.Trees.{Op, choice, sequence, parallel, loop, silent, leaf, node, Forest, none, more, sizes, labelsAll, In, InOne, InRow, InLoop}
 use Rattle.rules.specs.WellFormed.{WellFormed}
-use Rattle.rules.specs.TreeBlock.{opOf, kindAt, argumentAt, sizeAt}
+use Rattle.rules.specs.TreeBlock.{operatorOf, opOf, kindAt, argumentAt, sizeAt}
 use Rattle.rules.specs.Holds.{Holds}
 use Rattle.rules.specs.Calls.{codeCount}
 use Rattle.rules.specs.declared.Operator.{Operator}
 use Rattle.rules.specs.declared.Operator.the-variants.{Choice, Sequence, Parallel, Loop}
 use Rattle.rules.proofs.Operator.{the-type}
 use Rattle.rules.proofs.BoolLaws.{or-off}
-use Rattle.rules.proofs.Entries.{kind-low}
+use Rattle.rules.proofs.Entries.{operator-kind, kind-low}
 use Rattle.rules.proofs.ListLaws.{has-mem}
 use Rattle.judge_rows.specs.Rows.{between, clear, single}
 use Rattle.judge_meanings.specs.Means.{Lang, Means}
 use Rattle.judge_meanings.proofs.MeansLaws.{means-rows, means-set, silent-means, leaf-means}
-use Rattle.judge_subtrees.specs.Entries.{operatorOf, labelled}
+use Rattle.judge_subtrees.specs.Entries.{labelled}
 use Rattle.judge_nodes.specs.Children.{against, Ready, ListMeans, LoopMeans}
 use Rattle.judge_nodes.specs.Nodes.{NodeMeans}
 use Rattle.judge_subtrees.proofs.LabelLaws.{labelled-codes}
-use Rattle.judge_subtrees.proofs.EntryLaws.{operator-kind, children-formed}
+use Rattle.judge_subtrees.proofs.EntryLaws.{children-formed}
 
 -- any operator but a parallel
 pub against-all : (p : Operator) → OneOf (0 ∷ 1 ∷ 3 ∷ []) (tagOf the-type p) → (S : ℕ → Bool) (c : ℕ) → S c ≡ against (opOf p) S c

@@ -1,29 +1,21 @@
--- Entries that hold trees: operators, sizes, lists walked child by child, every entry of a tree; parts of well-formed trees.
+-- Entries that hold trees: sizes, lists walked child by child, every entry of a tree; parts of well-formed trees.
 use Prim.Native.Nat.{ℕ, suc, _+_, _≤_, _<_}
 use native.Mathlib.Omega.{arith}
 use mathlib.Core.List.{List, [], _∷_, _++_}
-use mathlib.Core.Path.{_≡_, refl, sym, subst}
+use mathlib.Core.Path.{_≡_, sym, subst}
 use mathlib.Core.Logic.{inl, inr, ⊎-elim}
 use mathlib.Core.Bool.{true, false}
 use Rattle.rules.specs.Words.{mem, Has}
-use Rattle.rules.specs.Trees.{Op, choice, sequence, parallel, loop, Tree, silent, leaf, node, Forest, none, more, size, sizes, labels, labelsAll}
+use Rattle.rules.specs.Trees.{Op, Tree, silent, leaf, node, Forest, none, more, size, sizes, labels, labelsAll}
 use Rattle.rules.specs.WellFormed.{Distinct, TwoTrees, Wide, WellFormed}
-use Rattle.rules.specs.TreeBlock.{kindOf, kindAt, sizeAt}
+use Rattle.rules.specs.TreeBlock.{kindAt, sizeAt}
 use Rattle.rules.specs.Holds.{Holds, HoldsAll}
 use Rattle.rules.specs.Calls.{codeCount, entryCount}
 use Rattle.rules.proofs.BoolLaws.{bool-cases}
 use Rattle.rules.proofs.ListLaws.{has-append-left, has-append-right, mem-has}
 use Rattle.code_sets.proofs.BitLaws.{lt-or-le}
 use Rattle.judge_meanings.proofs.LanguageLaws.{append, labels-append}
-use Rattle.judge_subtrees.specs.Entries.{operatorOf, WellFormedAll, Subtree, Subtrees}
-
--- ---- operators
-
-pub operator-kind : (o : Op) → operatorOf (kindOf o) ≡ o
-operator-kind choice = refl
-operator-kind sequence = refl
-operator-kind parallel = refl
-operator-kind loop = refl
+use Rattle.judge_subtrees.specs.Entries.{WellFormedAll, Subtree, Subtrees}
 
 -- ---- sizes
 

@@ -5,17 +5,13 @@ use mathlib.Core.Path.{_≡_}
 use mathlib.Core.Bool.{Bool, _&&_}
 use lib.Dec.{eqb, ltb}
 use lib.ListN.{length}
-use Rattle.rules.specs.Words.{pick, Has}
-use Rattle.rules.specs.Trees.{Op, choice, sequence, parallel, loop, Tree, Forest, size, sizes, labelsAll}
+use Rattle.rules.specs.Words.{Has}
+use Rattle.rules.specs.Trees.{Tree, Forest, size, sizes, labelsAll}
 use Rattle.rules.specs.WellFormed.{Distinct, WideAll, WellFormed}
 use Rattle.rules.specs.TreeBlock.{kindAt, argumentAt}
 use Rattle.rules.specs.Holds.{Holds, HoldsAll}
 use Rattle.rules.specs.Calls.{codeCount}
 use Rattle.code_sets.specs.Bits.{anyBelow}
-
--- the operator of a kind
-abbrev pub operatorOf : ℕ → Op
-operatorOf kind = pick (eqb kind 3) choice (pick (eqb kind 4) sequence (pick (eqb kind 5) parallel loop))
 
 -- a list of well-formed trees that have no code in common
 pub record WellFormedAll (m : ℕ) (f : Forest) : Type 0 where

@@ -8,10 +8,10 @@ use rules::SEQUENCE;
 ghost use mathlib.Core.Path.{_≡_};
 ghost use Prim.Native.Nat.{ℕ, _+_, _≤_, _<_};
 ghost use lib.ListN.{length};
-ghost use Rattle.rules.specs.TreeBlock.{opOf, kindAt, sizeAt};
+ghost use Rattle.rules.specs.TreeBlock.{operatorOf, opOf, kindAt, sizeAt};
 ghost use Rattle.rules.specs.Calls.{entryCount};
 ghost use Rattle.code_sets.specs.Bits.{has};
-ghost use Rattle.judge_subtrees.specs.Entries.{operatorOf, labelled};
+ghost use Rattle.judge_subtrees.specs.Entries.{labelled};
 
 // The operator of the node at entry v.
 pub fn operator_at(tree: &[u8], v: usize) -> Operator

@@ -6,9 +6,8 @@ use native.Mathlib.Omega.{arith}
 use lib.ListN.{length, length-append, getD, drop}
 use lib.Dec.{eqb}
 use borrow.Author.Tests.{eqb-true, eqb-false}
-use Rattle.rules.specs.Words.{pick}
 use Rattle.rules.specs.Trees.{Op, choice, sequence, parallel, loop, Tree, silent, leaf, node, Forest, none, more, size, sizes, children}
-use Rattle.rules.specs.TreeBlock.{kindOf, entries, entriesAll}
+use Rattle.rules.specs.TreeBlock.{kindOf, operatorOf, entries, entriesAll}
 use Rattle.rules.proofs.AnswerLaws.{pick-case}
 
 mutual
@@ -29,19 +28,14 @@ mutual
 
 -- ---- the operator of a kind
 
-pub opOf : ℕ → Op
-opOf k = pick (eqb k 3) choice (pick (eqb k 4) sequence (pick (eqb k 5) parallel loop))
+pub operator-kind : (o : Op) → operatorOf (kindOf o) ≡ o
+operator-kind choice = refl
+operator-kind sequence = refl
+operator-kind parallel = refl
+operator-kind loop = refl
 
-op-kind : (o : Op) → opOf (kindOf o) ≡ o
-unfolding opOf
-op-kind choice = refl
-op-kind sequence = refl
-op-kind parallel = refl
-op-kind loop = refl
-
-pub kind-opOf : (k : ℕ) → 3 ≤ k → k ≤ 6 → kindOf (opOf k) ≡ k
-unfolding opOf
-kind-opOf k low high =
+pub kind-operator : (k : ℕ) → 3 ≤ k → k ≤ 6 → kindOf (operatorOf k) ≡ k
+kind-operator k low high =
     pick-case (λ (o : Op). kindOf o ≡ k) (eqb k 3) (λ e. sym (eqb-true k 3 e)) (λ three.
     pick-case (λ (o : Op). kindOf o ≡ k) (eqb k 4) (λ e. sym (eqb-true k 4 e)) (λ four.
     pick-case (λ (o : Op). kindOf o ≡ k) (eqb k 5) (λ e. sym (eqb-true k 5 e)) (λ five.
@@ -63,7 +57,7 @@ kind-high parallel = omega arith
 kind-high loop = omega arith
 
 same-op : (o p : Op) → kindOf o ≡ kindOf p → o ≡ p
-same-op o p e = sym (op-kind o) ∙ ap opOf e ∙ op-kind p
+same-op o p e = sym (operator-kind o) ∙ ap operatorOf e ∙ operator-kind p
 
 -- ---- THEOREM: preorder with the numbers of children reads back, whatever stands after it
 

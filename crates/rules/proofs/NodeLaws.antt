@@ -11,12 +11,12 @@ use borrow.Author.Tests.{lt-ltb, le-ltb, eq-eqb, ne-eqb, ltb-true, ltb-false, eq
 use Rattle.rules.specs.Words.{Has, pick, mem}
 use Rattle.rules.specs.Trees.{Tree, silent, leaf, node, Forest, none, more, size, sizes, children, labels, labelsAll}
 use Rattle.rules.specs.WellFormed.{Wide, WideAll}
-use Rattle.rules.specs.TreeBlock.{Sound, upto, broken, kindOf, kindAt, argumentAt, sizeAt, zeroAt, silentRule, leafRule, sizedRule, followedBy, entryRule, nodeAt, listAt}
+use Rattle.rules.specs.TreeBlock.{operatorOf, Sound, upto, broken, kindOf, kindAt, argumentAt, sizeAt, zeroAt, silentRule, leafRule, sizedRule, followedBy, entryRule, nodeAt, listAt}
 use Rattle.rules.specs.Holds.{EntryIs, Holds, HoldsAll}
 use Rattle.rules.proofs.AnswerLaws.{pick-case}
 use Rattle.rules.proofs.ListLaws.{has-append-left, has-append-right, has-append-cases}
 use Rattle.rules.proofs.TreeLaws.{tree-some, children-sizes, two-children, children-two}
-use Rattle.rules.proofs.Entries.{opOf, kind-opOf, kind-low, kind-high}
+use Rattle.rules.proofs.Entries.{kind-operator, kind-low, kind-high}
 use Rattle.rules.proofs.Fresh.{onto, Fresh, onto-append, fresh-append, fresh-front, fresh-rest}
 
 module _ (limit m : ℕ) (b : List ℕ) where
@@ -87,11 +87,11 @@ module _ (limit m : ℕ) (b : List ℕ) where
     sized-found : 3 ≤ kindAt b at → kindAt b at ≤ 6 → 2 ≤ argumentAt b at → (x : Sound) → ListFound (at + 1) (argumentAt b at) seen x → NodeFound at seen (sizedRule at (sizeAt b at) x)
     sized-found low high two (upto next grown) (f, below) =
         pick-case (NodeFound at seen) (eqb next (at + sizeAt b at)) (λ s. (
-          node (opOf (kindAt b at)) f,
+          node (operatorOf (kindAt b at)) f,
           record {
             held = (
               record {
-                kind = sym (kind-opOf (kindAt b at) low high);
+                kind = sym (kind-operator (kindAt b at) low high);
                 argument = sym (below .count);
                 size = let e = eqb-true next (at + sizeAt b at) s in let g = below .ends in omega arith;
                 zero = z;

@@ -25,6 +25,10 @@ kindOf sequence = 4
 kindOf parallel = 5
 kindOf loop = 6
 
+-- the operator of a kind
+abbrev pub operatorOf : ℕ → Op
+operatorOf kind = pick (eqb kind 3) choice (pick (eqb kind 4) sequence (pick (eqb kind 5) parallel loop))
+
 -- kind, argument, size, zero
 abbrev pub entry : ℕ → ℕ → ℕ → List ℕ
 entry kind argument size = kind ∷ argument ∷ size ∷ 0 ∷ []

@@ -2,7 +2,7 @@
 use borrow.Author.Needs.{needs}
 use borrow.Author.Tests.{ne-eqb}
 use mathlib.Core.Path.{refl, sym, ap}
-use Rattle.judge_subtrees.specs.Entries.{operatorOf}
+use Rattle.rules.specs.TreeBlock.{operatorOf}
 use Rattle.judge_subtrees.proofs.operator_at.Statement.{statement}
 use Rattle.judge_subtrees.proofs.operator_at.Tie as tie
 
