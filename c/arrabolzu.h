@@ -1,6 +1,7 @@
 /* Arrabolzu: episode blocks, mining and judging, for a caller in C.
  *
- * Link with libgateway.a (x86-64), which `rt staticlib gateway` writes to target/staticlib/.
+ * Link with libarrabolzu.a, which `c/library PROCESSOR` writes to target/c/PROCESSOR/ for x86_64, aarch64, armv7 or riscv64. It
+ * asks for memcpy, memmove and memset, as any freestanding C does, and for nothing else.
  *
  * Every call takes every input, ends, and answers one 64-bit number:
  *
@@ -8,13 +9,13 @@
  *   bits 0 to 31    the call's value; for a refusal its place
  *
  * The macros below take an answer apart. A refusal has written nothing anywhere. Lengths count elements: bytes, for the work
- * of judging 64-bit numbers. A pointer must point to as many elements as its length says; with length 0 it is not read. What a
- * call is lent to write may not overlap what it reads. The calls keep no state and allocate nothing.
+ * of judging 64-bit numbers. They are 64 bits wide on every processor, whatever its size_t is. A pointer must point to as many
+ * elements as its length says; with length 0 it is not read. What a call is lent to write may not overlap what it reads. The
+ * calls keep no state and allocate nothing.
  */
 #ifndef ARRABOLZU_H
 #define ARRABOLZU_H
 
-#include <stddef.h>
 #include <stdint.h>
 
 #ifdef __cplusplus
@@ -32,25 +33,26 @@ extern "C" {
 
 /* Reads the record whose length byte is at `at` of a log block. Value: the place of the next length byte; the record's codes
  * are the bytes from at + 1 up to it. Tests neither the block's check nor its count. Refusals: 1; 5 or 6 at this record. */
-uint64_t arrabolzu_read(const uint8_t *block, size_t block_length, size_t at);
+uint64_t arrabolzu_read(const uint8_t *block, uint64_t block_length, uint64_t at);
 
 /* Adds an episode, a code a byte, to a log block. Value: the new count. Writes the record, the count and the check; no other
  * byte changes. 512 zero bytes are a block with no record. Refusals, in this order: 1, 4, 5 or 6 and padding, 10, 11, 12. */
-uint64_t arrabolzu_add(uint8_t *block, size_t block_length, const uint8_t *episode, size_t episode_length);
+uint64_t arrabolzu_add(uint8_t *block, uint64_t block_length, const uint8_t *episode, uint64_t episode_length);
 
 /* Mines the tree of a log of 1 to 16 blocks. Value: the number of nodes. Writes the first 512 bytes of `out`, nothing beyond;
  * the first 16,384 bytes of `work` are zero afterwards, the rest is as found. Refusals, in this order: 1, 2, 3, then block by
  * block 4, 5 or 6, padding; 7 last. Places count from the start of the log. */
-uint64_t arrabolzu_mine(const uint8_t *log, size_t log_length, uint8_t *out, size_t out_length, uint8_t *work, size_t work_length);
+uint64_t arrabolzu_mine(const uint8_t *log, uint64_t log_length, uint8_t *out, uint64_t out_length, uint8_t *work,
+                        uint64_t work_length);
 
 /* Checks a tree block. Value: the number of nodes. Refusals: 8, 9. */
-uint64_t arrabolzu_check(const uint8_t *tree, size_t tree_length);
+uint64_t arrabolzu_check(const uint8_t *tree, uint64_t tree_length);
 
 /* Judges an episode against a tree. Value: 1 where the language of the tree has the episode, 0 where it has not; a code that no
  * leaf has is no refusal. The first 8,128 numbers of `work` are zero afterwards, the rest is as found. Refusals, in this order:
  * 8 for the length, 3, 8 for the check, 9, 10, 11. */
-uint64_t arrabolzu_judge(const uint8_t *tree, size_t tree_length, const uint8_t *episode, size_t episode_length, uint64_t *work,
-                         size_t work_length);
+uint64_t arrabolzu_judge(const uint8_t *tree, uint64_t tree_length, const uint8_t *episode, uint64_t episode_length,
+                         uint64_t *work, uint64_t work_length);
 
 #ifdef __cplusplus
 }

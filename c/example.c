@@ -13,7 +13,7 @@ static int refused(const char *call, uint64_t answer) {
     if (ARRABOLZU_REFUSAL(answer) == 0) {
         return 0;
     }
-    printf("%s refused %u at %u\n", call, ARRABOLZU_REFUSAL(answer), ARRABOLZU_VALUE(answer));
+    printf("%s refused %u at %u\n", call, ARRABOLZU_REFUSAL(answer), (unsigned)ARRABOLZU_VALUE(answer));
     return 1;
 }
 
@@ -44,7 +44,7 @@ int main(void) {
     if (refused("mining", mined)) {
         return 1;
     }
-    printf("mined %u nodes\n", ARRABOLZU_VALUE(mined));
+    printf("mined %u nodes\n", (unsigned)ARRABOLZU_VALUE(mined));
     unsigned episodes = 0;
     unsigned fits = 0;
     for (size_t base = 0; base < length; base += ARRABOLZU_BLOCK) {

@@ -9,18 +9,18 @@ fn main() {
         return;
     }
     let here = PathBuf::from(env::var_os("CARGO_MANIFEST_DIR").expect("set by cargo"));
-    let folder = match env::var_os("GATEWAY_ARCHIVE") {
-        Some(folder) => PathBuf::from(folder),
-        None => here.join("../target/staticlib"),
+    let archive = match env::var_os("GATEWAY_ARCHIVE") {
+        Some(file) => here.join(file),
+        None => here.join("../target/staticlib/libgateway.a"),
     };
-    let archive = folder.join("libgateway.a");
     println!("cargo:rerun-if-changed={}", archive.display());
     if !archive.exists() {
         panic!(
-            "no {}: run `rt staticlib gateway` at the repository's root, or set GATEWAY_ARCHIVE to its folder",
+            "no {}: run `rt staticlib gateway` at the repository's root, or name another by GATEWAY_ARCHIVE",
             archive.display()
         );
     }
-    println!("cargo:rustc-link-search=native={}", folder.display());
-    println!("cargo:rustc-link-lib=static=gateway");
+    let name = archive.file_stem().and_then(|stem| stem.to_str()?.strip_prefix("lib")).expect("a file named lib*.a");
+    println!("cargo:rustc-link-search=native={}", archive.parent().expect("a file's folder").display());
+    println!("cargo:rustc-link-lib=static={name}");
 }

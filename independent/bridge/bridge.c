@@ -1,101 +1,113 @@
-/* Answers calls of the library over standard input and output. The library is x86-64 code; by this program, run by an
-   emulator if need be, a comparison on another processor can ask it. Everything that a call is lent stands between two
-   guards, and a call can be made on a painted stack to see how deep it goes. */
+/* Answers calls of the library over standard input and output, so that a comparison can ask it where it is code for another
+   processor and an emulator runs this program. Everything that a call is lent stands between two guards, bytes at an odd
+   address, and a call can be made on a painted stack to see how deep it goes. */
+#include <stddef.h>
+#include <stdint.h>
 
-typedef unsigned char u8;
-typedef unsigned long u64;
+#include "arrabolzu.h"
 
-u64 arrabolzu_read(const u8 *block, u64 length, u64 at);
-u64 arrabolzu_add(u8 *block, u64 length, const u8 *episode, u64 episode_length);
-u64 arrabolzu_mine(const u8 *log, u64 length, u8 *out, u64 out_length, u8 *work, u64 work_length);
-u64 arrabolzu_check(const u8 *tree, u64 length);
-u64 arrabolzu_judge(const u8 *tree, u64 length, const u8 *episode, u64 episode_length, u64 *work, u64 work_length);
-
-long read(int file, void *to, u64 length);
-long write(int file, const void *from, u64 length);
-void *malloc(u64 length);
+long read(int file, void *to, size_t length);
+long write(int file, const void *from, size_t length);
+void *malloc(size_t length);
 void free(void *cells);
 void exit(int status);
+uint64_t on_stack(void *argument, uint64_t (*function)(void *), void *top);
 
-enum { GUARD = 64, GUARD_BYTE = 0x5c, PAINT_BYTE = 0xa5, STACK = 1 << 18 };
+enum { GUARD = 61, GUARD_BYTE = 0x5c, PAINT_BYTE = 0xa5, STACK = 1 << 18 };
 
-/* What comes first in a request; the lengths are in bytes, and the lent bytes follow. */
+/* NOTHING is no call: what a measurement has beside the call. */
+enum { NOTHING, READ, ADD, MINE, CHECK, JUDGE };
+
+/* What comes first in a request; the lent cells follow, as many as length says and each as many bytes wide as width says. */
 struct request {
-    u64 call, at, null_for_nothing, paint, slices, length[3];
+    uint64_t call, at, null_for_nothing, paint, slices, length[3], width[3];
 };
 
-/* What comes first in a reply; the lent bytes follow. */
+/* What comes first in a reply; the lent cells follow. */
 struct reply {
-    u64 answer, guards_hold, stack;
+    uint64_t answer, guards_hold, stack;
 };
 
 struct lent {
     struct request asked;
-    u8 *cells[3];
+    uint8_t *cells[3];
     void *at[3];
 };
 
-static void get(void *to, u64 length) {
-    for (u64 done = 0; done < length;) {
-        long more = read(0, (u8 *)to + done, length - done);
+static void get(void *to, size_t length) {
+    for (size_t done = 0; done < length;) {
+        long more = read(0, (uint8_t *)to + done, length - done);
         if (more <= 0) exit(more < 0 || done > 0);
         done += more;
     }
 }
 
-static void put(const void *from, u64 length) {
-    for (u64 done = 0; done < length;) {
-        long more = write(1, (const u8 *)from + done, length - done);
+static void put(const void *from, size_t length) {
+    for (size_t done = 0; done < length;) {
+        long more = write(1, (const uint8_t *)from + done, length - done);
         if (more <= 0) exit(1);
         done += more;
     }
 }
 
-static void fill(u8 *cells, u64 length, u8 byte) {
-    for (u64 i = 0; i < length; i++) ((volatile u8 *)cells)[i] = byte;
+static void fill(uint8_t *cells, size_t length, uint8_t byte) {
+    for (size_t i = 0; i < length; i++) ((volatile uint8_t *)cells)[i] = byte;
 }
 
-static int filled(const u8 *cells, u64 length, u8 byte) {
-    for (u64 i = 0; i < length; i++)
+static int filled(const uint8_t *cells, size_t length, uint8_t byte) {
+    for (size_t i = 0; i < length; i++)
         if (cells[i] != byte) return 0;
     return 1;
 }
 
-static void lend(struct lent *lent, int number) {
-    u64 length = lent->asked.length[number];
-    u8 *cells = malloc(length + 2 * GUARD);
-    fill(cells, length + 2 * GUARD, GUARD_BYTE);
-    get(cells + GUARD, length);
-    lent->cells[number] = cells;
-    lent->at[number] = length == 0 && lent->asked.null_for_nothing ? 0 : cells + GUARD;
+/* The bytes of what is lent, and of the guard on each side of it. */
+static size_t bytes(const struct lent *lent, int number) {
+    return lent->asked.length[number] * lent->asked.width[number];
 }
 
-static u64 call(struct lent *lent) {
+static size_t guard(const struct lent *lent, int number) {
+    return GUARD * lent->asked.width[number];
+}
+
+static void lend(struct lent *lent, int number) {
+    size_t length = bytes(lent, number), beside = guard(lent, number);
+    uint8_t *cells = malloc(length + 2 * beside);
+    if (!cells) exit(1);
+    fill(cells, length + 2 * beside, GUARD_BYTE);
+    get(cells + beside, length);
+    lent->cells[number] = cells;
+    lent->at[number] = length == 0 && lent->asked.null_for_nothing ? NULL : cells + beside;
+}
+
+static int guards_hold(const struct lent *lent, int number) {
+    size_t beside = guard(lent, number);
+    const uint8_t *cells = lent->cells[number];
+    return filled(cells, beside, GUARD_BYTE) && filled(cells + beside + bytes(lent, number), beside, GUARD_BYTE);
+}
+
+static uint64_t call(void *argument) {
+    struct lent *lent = argument;
     void **at = lent->at;
-    u64 *length = lent->asked.length;
+    const uint64_t *length = lent->asked.length;
     switch (lent->asked.call) {
-    case 0: return arrabolzu_read(at[0], length[0], lent->asked.at);
-    case 1: return arrabolzu_add(at[0], length[0], at[1], length[1]);
-    case 2: return arrabolzu_mine(at[0], length[0], at[1], length[1], at[2], length[2]);
-    case 3: return arrabolzu_check(at[0], length[0]);
-    case 4: return arrabolzu_judge(at[0], length[0], at[1], length[1], at[2], length[2] / 8);
+    case NOTHING: return 0;
+    case READ: return arrabolzu_read(at[0], length[0], lent->asked.at);
+    case ADD: return arrabolzu_add(at[0], length[0], at[1], length[1]);
+    case MINE: return arrabolzu_mine(at[0], length[0], at[1], length[1], at[2], length[2]);
+    case CHECK: return arrabolzu_check(at[0], length[0]);
+    case JUDGE: return arrabolzu_judge(at[0], length[0], at[1], length[1], at[2], length[2]);
     }
     exit(2);
     return 0;
 }
 
-static u8 painted[STACK] __attribute__((aligned(16)));
+static uint8_t painted[STACK] __attribute__((aligned(16)));
 
 /* Makes the call on the painted stack; the stack's use is counted from the call's own frame on. */
-static u64 call_on_paint(struct lent *lent, u64 *stack) {
-    u64 answer;
-    u8 *top = painted + STACK;
+static uint64_t call_on_paint(struct lent *lent, uint64_t *stack) {
     fill(painted, STACK, PAINT_BYTE);
-    __asm__ volatile("movq %%rsp, %%rbx\n\tmovq %2, %%rsp\n\tcallq *%3\n\tmovq %%rbx, %%rsp"
-                     : "=a"(answer), "+D"(lent)
-                     : "r"(top), "r"(call)
-                     : "rbx", "rcx", "rdx", "rsi", "r8", "r9", "r10", "r11", "memory", "cc");
-    u64 untouched = 0;
+    uint64_t answer = on_stack(lent, call, painted + STACK);
+    size_t untouched = 0;
     while (untouched < STACK && painted[untouched] == PAINT_BYTE) untouched++;
     *stack = STACK - untouched;
     return answer;
@@ -103,23 +115,20 @@ static u64 call_on_paint(struct lent *lent, u64 *stack) {
 
 static void serve(struct lent *lent) {
     struct reply reply = {0, 1, 0};
-    for (u64 i = 0; i < lent->asked.slices; i++) lend(lent, i);
+    int slices = lent->asked.slices;
+    for (int i = 0; i < slices; i++) lend(lent, i);
     reply.answer = lent->asked.paint ? call_on_paint(lent, &reply.stack) : call(lent);
-    for (u64 i = 0; i < lent->asked.slices; i++) {
-        const u8 *cells = lent->cells[i];
-        u64 length = lent->asked.length[i];
-        if (!filled(cells, GUARD, GUARD_BYTE) || !filled(cells + GUARD + length, GUARD, GUARD_BYTE)) reply.guards_hold = 0;
-    }
+    for (int i = 0; i < slices; i++) reply.guards_hold &= guards_hold(lent, i);
     put(&reply, sizeof reply);
-    for (u64 i = 0; i < lent->asked.slices; i++) {
-        put(lent->cells[i] + GUARD, lent->asked.length[i]);
+    for (int i = 0; i < slices; i++) {
+        put(lent->cells[i] + guard(lent, i), bytes(lent, i));
         free(lent->cells[i]);
     }
 }
 
 int main(void) {
     for (;;) {
-        struct lent lent = {0};
+        struct lent lent;
         get(&lent.asked, sizeof lent.asked);
         serve(&lent);
     }

@@ -8,40 +8,82 @@ use std::process::{Child, Command, Stdio};
 /// Given for a call that wrote where it must not; no call of the library answers it.
 const TRESPASS: u64 = u64::MAX;
 
-pub struct Bridge {
-    child: RefCell<Child>,
-    pub null_for_nothing: bool,
-}
+/// How many runs of cells a request has room for.
+const SLICES: usize = 3;
 
-/// What is lent to a call: bytes that it may write or may only read.
-enum Lent<'a> {
+/// What is lent to a call: cells that it may only read or may write.
+pub enum Lent<'a> {
     Read(&'a [u8]),
     Write(&'a mut [u8]),
+    Numbers(&'a mut [u64]),
 }
 
 impl Lent<'_> {
-    fn bytes(&self) -> &[u8] {
+    /// Its bytes, and how many of them are one cell.
+    fn cells(&self) -> (Vec<u8>, usize) {
         match self {
-            Lent::Read(bytes) => bytes,
-            Lent::Write(bytes) => bytes,
+            Lent::Read(bytes) => (bytes.to_vec(), 1),
+            Lent::Write(bytes) => (bytes.to_vec(), 1),
+            Lent::Numbers(numbers) => (numbers.iter().flat_map(|number| number.to_le_bytes()).collect(), 8),
         }
     }
 
-    /// Takes the bytes as they are after the call; false where the call changed what it may only read.
+    /// Takes the cells as they are after the call; false where the call changed what it may only read.
     fn take_back(&mut self, after: &[u8]) -> bool {
         match self {
-            Lent::Read(bytes) => *bytes == after,
-            Lent::Write(bytes) => {
-                bytes.copy_from_slice(after);
-                true
+            Lent::Read(bytes) => return *bytes == after,
+            Lent::Write(bytes) => bytes.copy_from_slice(after),
+            Lent::Numbers(numbers) => {
+                for (number, eight) in numbers.iter_mut().zip(after.chunks(8)) {
+                    *number = u64::from_le_bytes(eight.try_into().expect("8 bytes"));
+                }
             }
         }
+        true
+    }
+}
+
+/// The calls by their numbers; nothing is no call, what a measurement has beside the call.
+#[derive(Clone, Copy)]
+pub enum Asked {
+    Nothing,
+    Read,
+    Add,
+    Mine,
+    Check,
+    Judge,
+}
+
+/// A call with its place, where it has one, and all that it is lent.
+pub struct Request<'a> {
+    pub call: Asked,
+    pub at: usize,
+    pub lent: Vec<Lent<'a>>,
+}
+
+impl Request<'_> {
+    /// The bytes that ask for the call, on a painted stack or not.
+    pub fn message(&self, null_for_nothing: bool, paint: bool) -> Vec<u8> {
+        let cells: Vec<(Vec<u8>, usize)> = self.lent.iter().map(Lent::cells).collect();
+        let mut words = vec![self.call as usize, self.at, null_for_nothing as usize, paint as usize, cells.len()];
+        words.extend(cells.iter().map(|(bytes, width)| bytes.len() / width));
+        words.resize(5 + SLICES, 0);
+        words.extend(cells.iter().map(|(_, width)| *width));
+        words.resize(5 + 2 * SLICES, 0);
+        let mut message: Vec<u8> = words.iter().flat_map(|&word| (word as u64).to_le_bytes()).collect();
+        cells.iter().for_each(|(bytes, _)| message.extend(bytes));
+        message
     }
 }
 
 struct Reply {
     answer: u64,
     stack: u64,
+}
+
+pub struct Bridge {
+    child: RefCell<Child>,
+    pub null_for_nothing: bool,
 }
 
 impl Bridge {
@@ -58,13 +100,9 @@ impl Bridge {
         std::env::var("GATEWAY_BRIDGE").ok()
     }
 
-    fn ask(&self, call: u64, at: usize, paint: bool, mut lent: Vec<Lent>) -> Reply {
+    fn ask(&self, mut request: Request, paint: bool) -> Reply {
         let mut child = self.child.borrow_mut();
-        let mut words = vec![call, at as u64, self.null_for_nothing as u64, paint as u64, lent.len() as u64];
-        words.extend(lent.iter().map(|one| one.bytes().len() as u64));
-        words.resize(8, 0);
-        let mut message: Vec<u8> = words.iter().flat_map(|word| word.to_le_bytes()).collect();
-        lent.iter().for_each(|one| message.extend(one.bytes()));
+        let message = request.message(self.null_for_nothing, paint);
         child.stdin.as_mut().expect("piped").write_all(&message).expect("the bridge listens");
         let from = child.stdout.as_mut().expect("piped");
         let mut read = |length| {
@@ -75,28 +113,22 @@ impl Bridge {
         let head = read(24);
         let word = |number: usize| u64::from_le_bytes(head[8 * number..8 * number + 8].try_into().expect("8 bytes"));
         let mut in_bounds = word(1) == 1;
-        for one in &mut lent {
-            let after = read(one.bytes().len());
+        for one in &mut request.lent {
+            let after = read(one.cells().0.len());
             in_bounds &= one.take_back(&after);
         }
         let answer = if in_bounds { word(0) } else { TRESPASS };
         Reply { answer, stack: word(2) }
     }
 
-    /// The bytes of stack that mining a log uses.
-    pub fn mining_stack(&self, log: &[u8], out: &mut [u8], work: &mut [u8]) -> u64 {
-        self.ask(2, 0, true, vec![Lent::Read(log), Lent::Write(out), Lent::Write(work)]).stack
+    /// The bytes of stack that a call uses.
+    pub fn stack(&self, request: Request) -> u64 {
+        self.ask(request, true).stack
     }
 
-    /// The bytes of stack that judging an episode uses.
-    pub fn judging_stack(&self, tree: &[u8], episode: &[u8], work: &mut [u64]) -> u64 {
-        let mut bytes = bytes_of(work);
-        self.ask(4, 0, true, vec![Lent::Read(tree), Lent::Read(episode), Lent::Write(&mut bytes)]).stack
+    fn answer(&self, call: Asked, at: usize, lent: Vec<Lent>) -> u64 {
+        self.ask(Request { call, at, lent }, false).answer
     }
-}
-
-fn bytes_of(numbers: &[u64]) -> Vec<u8> {
-    numbers.iter().flat_map(|number| number.to_le_bytes()).collect()
 }
 
 impl Gateway for Bridge {
@@ -109,29 +141,23 @@ impl Gateway for Bridge {
     }
 
     fn read(&self, block: &[u8], at: usize) -> u64 {
-        self.ask(0, at, false, vec![Lent::Read(block)]).answer
+        self.answer(Asked::Read, at, vec![Lent::Read(block)])
     }
 
     fn add(&self, block: &mut [u8], episode: &[u8]) -> u64 {
-        self.ask(1, 0, false, vec![Lent::Write(block), Lent::Read(episode)]).answer
+        self.answer(Asked::Add, 0, vec![Lent::Write(block), Lent::Read(episode)])
     }
 
     fn mine(&self, log: &[u8], out: &mut [u8], work: &mut [u8]) -> u64 {
-        self.ask(2, 0, false, vec![Lent::Read(log), Lent::Write(out), Lent::Write(work)]).answer
+        self.answer(Asked::Mine, 0, vec![Lent::Read(log), Lent::Write(out), Lent::Write(work)])
     }
 
     fn check(&self, tree: &[u8]) -> u64 {
-        self.ask(3, 0, false, vec![Lent::Read(tree)]).answer
+        self.answer(Asked::Check, 0, vec![Lent::Read(tree)])
     }
 
     fn judge(&self, tree: &[u8], episode: &[u8], work: &mut [u64]) -> u64 {
-        let mut bytes = bytes_of(work);
-        let lent = vec![Lent::Read(tree), Lent::Read(episode), Lent::Write(&mut bytes)];
-        let answer = self.ask(4, 0, false, lent).answer;
-        for (number, eight) in work.iter_mut().zip(bytes.chunks(8)) {
-            *number = u64::from_le_bytes(eight.try_into().expect("8 bytes"));
-        }
-        answer
+        self.answer(Asked::Judge, 0, vec![Lent::Read(tree), Lent::Read(episode), Lent::Numbers(work)])
     }
 }
 

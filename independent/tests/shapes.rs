@@ -3,7 +3,7 @@
 use independent::answer::refuse;
 use independent::calls::{check, Gateway};
 use independent::fast::Fast;
-use independent::generate::largest::{Task, BROKEN, SHAPES};
+use independent::generate::largest::{Task, BROKEN, SHAPES, WORST};
 use independent::log::episodes_of;
 use std::collections::BTreeSet;
 
@@ -13,7 +13,7 @@ fn mined(log: &[u8]) -> u64 {
 
 #[test]
 fn logs_are_full_and_trees_are_large() {
-    for (name, make) in SHAPES {
+    for (name, make) in SHAPES.into_iter().chain(WORST) {
         match make() {
             Task::Mine { log } => {
                 let codes: BTreeSet<u8> = episodes_of(&log).expect("a sound log").concat().into_iter().collect();

@@ -40,13 +40,16 @@ pub const SHAPES: [Shape; 20] = [
     ("judge-flat-loop", || judge_any(among_silents(Loop))),
 ];
 
+/// The tree that takes most to judge: every entry has all places after every place.
+pub const WORST: [Shape; 1] = [("judge-silent-loops", || judge_one_code(silent_loops()))];
+
 /// Blocks of 127 operators, each the first child of the one before, which are refused: as many as leave room for their other
 /// children, or all of them.
 pub const BROKEN: [Shape; 2] =
     [("judge-broken-nest", || nested_operators(2)), ("judge-broken-chain", || nested_operators(1))];
 
 pub fn task(name: &str) -> Option<Task> {
-    SHAPES.iter().chain(&BROKEN).find(|(shape, _)| *shape == name).map(|(_, make)| make())
+    SHAPES.iter().chain(&WORST).chain(&BROKEN).find(|(shape, _)| *shape == name).map(|(_, make)| make())
 }
 
 /// What becomes of the events that a tree gives.
@@ -150,6 +153,11 @@ fn long_body() -> Tree {
 /// Sixty-three loops around each other and one code in the innermost: every place can follow every other.
 fn loops_of_one_code() -> Tree {
     (0..63).fold(Tree::Activity(0), |inner, _| Tree::Node(Loop, vec![Tree::Silent, inner]))
+}
+
+/// Sixty-three loops, each the body of the next, with nothing but silent leaves.
+fn silent_loops() -> Tree {
+    (0..63).fold(Tree::Silent, |inner, _| Tree::Node(Loop, vec![inner, Tree::Silent]))
 }
 
 /// One operator with 62 children: the 32 codes and silent leaves between most of them.

@@ -1,10 +1,6 @@
 //! How much stack a call uses, by painting one and looking for the deepest byte that lost its paint.
 
 use crate::{measured_call, Call};
-use independent::block::BLOCK;
-use independent::bridge::Bridge;
-use independent::calls::{JUDGING_WORK, MINING_WORK};
-use independent::generate::largest::Task;
 use std::arch::asm;
 
 const PAINT: u8 = 0xa5;
@@ -19,14 +15,6 @@ pub fn bytes_of(call: &mut Call) -> usize {
     // Once without looking, so that what is linked at the first use is not counted.
     measured_call(call);
     depth_of(measured_call, call) - depth_of(nothing, call)
-}
-
-/// The library's own bytes of stack, where it runs behind the bridge.
-pub fn bytes_by_bridge(bridge: &Bridge, task: Task) -> u64 {
-    match task {
-        Task::Mine { log } => bridge.mining_stack(&log, &mut [0; BLOCK], &mut [0; MINING_WORK]),
-        Task::Judge { block, episode } => bridge.judging_stack(&block, &episode, &mut vec![0; JUDGING_WORK]),
-    }
 }
 
 fn depth_of(function: extern "C" fn(&mut Call) -> u64, call: &mut Call) -> usize {

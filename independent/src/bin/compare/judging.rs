@@ -6,7 +6,7 @@ use crate::trial::Case;
 use independent::block::BLOCK;
 use independent::calls::JUDGING_WORK;
 use independent::generate::damage::{damage_tree, TreeDamage, TREE_DAMAGES};
-use independent::generate::largest::{Task, BROKEN, SHAPES};
+use independent::generate::largest::{Task, BROKEN, SHAPES, WORST};
 use independent::generate::logs::any_episode;
 use independent::generate::random::Random;
 use independent::generate::trees::{short_episode, some_codes, some_tree};
@@ -67,7 +67,7 @@ pub fn large_trees(tally: &mut Tally) {
 
 /// The measured episodes, each also with its last event changed.
 pub fn measured_episodes(tally: &mut Tally) {
-    for (_, make) in SHAPES.iter().chain(&BROKEN) {
+    for (_, make) in SHAPES.iter().chain(&WORST).chain(&BROKEN) {
         if let Task::Judge { block, mut episode } = make() {
             let mut judge = |episode: &[u8]| {
                 tally.case(Case::Judge { tree: block.to_vec(), episode: episode.to_vec(), work: JUDGING_WORK })
