@@ -1,5 +1,5 @@
-/* A plugin for qemu's user mode (plugin interface 1) that counts the instructions a program runs, for machines
-   on which the programs run under an emulator and callgrind cannot see them. */
+/* A plugin for qemu's user mode (plugin interface 1) that counts the instructions a program runs, for programs of
+   another processor than this machine's, which callgrind cannot see. */
 #include <inttypes.h>
 #include <stddef.h>
 #include <stdint.h>
