@@ -18,7 +18,7 @@ pub trait Gateway {
     fn judge(&self, tree: &[u8], episode: &[u8], work: &mut [u64]) -> u64;
 }
 
-/// The implementation that follows the page word by word.
+/// The implementation that follows the pages word by word.
 pub struct Plain;
 
 impl Gateway for Plain {

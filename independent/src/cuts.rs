@@ -39,14 +39,28 @@ fn sequence(graph: &Graph) -> Parts {
     parts
 }
 
+/// The components of the parallel rule: two different codes are joined unless both edges between them exist.
+pub fn parallel_components(graph: &Graph) -> Parts {
+    components(&graph.codes, |a, b| !(graph.has(a, b) && graph.has(b, a)))
+}
+
+/// The parallel cut. A component with a start and an end is a part of its own, the i-th with only starts is one with the i-th
+/// with only ends, and all that remain join the part with the smallest code.
 fn parallel(graph: &Graph) -> Parts {
-    let parts = components(&graph.codes, |a, b| !(graph.has(a, b) && graph.has(b, a)));
-    let can_start_and_end = |part: &Codes| !part.is_disjoint(&graph.starts) && !part.is_disjoint(&graph.ends);
-    if parts.iter().all(can_start_and_end) {
-        parts
-    } else {
-        vec![]
+    let found = parallel_components(graph);
+    let with = |start: bool, end: bool| {
+        let has = |part: &&Codes| part.is_disjoint(&graph.starts) != start && part.is_disjoint(&graph.ends) != end;
+        found.iter().filter(has).cloned().collect::<Parts>()
+    };
+    let pairs = with(true, false).into_iter().zip(with(false, true)).map(|(starts, ends)| &starts | &ends);
+    let mut parts: Parts = with(true, true).into_iter().chain(pairs).collect();
+    parts.sort_by_key(|part| part.first().copied());
+    let placed: Codes = parts.iter().flatten().copied().collect();
+    // What joins the first part can only make its smallest code smaller, so it stays the first.
+    if let Some(first) = parts.first_mut() {
+        first.extend(&graph.codes - &placed);
     }
+    parts
 }
 
 /// The loop cut: the body first, then the redo parts by their smallest code.

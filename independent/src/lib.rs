@@ -1,4 +1,4 @@
-//! An implementation of the miner that shares nothing with the proved one, written from the page that says how it must
+//! An implementation of the miner that shares nothing with the proved one, written from the pages that say how it must
 //! behave. Sublogs are copied and graphs are walked: it is meant to be read, and to be the other side of a comparison.
 
 pub mod answer;

@@ -120,6 +120,14 @@ fn j4_three_free_bytes() {
 }
 
 #[test]
+fn a_parallel_part_of_two_components() {
+    for side in SIDES {
+        let parts = vec![flower(vec![a()]), flower(vec![b(), c()])];
+        assert_eq!(mined(side, "bcbac abca"), Tree::Node(Parallel, parts));
+    }
+}
+
+#[test]
 fn mined_trees_are_not_reduced() {
     for side in SIDES {
         let inner = Tree::Node(Parallel, vec![a(), flower(vec![b()])]);

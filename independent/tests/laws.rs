@@ -1,14 +1,17 @@
 //! What the papers and the page promise of mined trees, tried on many logs.
 
+mod papers;
+
 use independent::cuts::{first_cut, parts_for};
 use independent::generate::logs::{any_episodes, tree_episodes};
 use independent::generate::random::Random;
-use independent::generate::trees::{some_codes, some_tree};
+use independent::generate::trees::{some_codes, some_tree, OPERATORS};
 use independent::graph::{Codes, Graph, Log};
 use independent::judge::fits;
 use independent::log::Episode;
 use independent::mine::{mine, split};
-use independent::tree::{well_formed, Operator};
+use independent::tree::well_formed;
+use papers::{divisions, is_cut};
 use std::collections::BTreeMap;
 
 fn logs(seed: u64, count: usize) -> Vec<Log> {
@@ -57,57 +60,6 @@ fn events(log: &Log) -> usize {
     log.iter().map(Vec::len).sum()
 }
 
-/// The cuts as the papers define them: 000, Definitions 5 to 7, and 003, Definition 4.
-fn is_cut(graph: &Graph, operator: Operator, parts: &[Codes]) -> bool {
-    let across = |holds: &dyn Fn(usize, u8, usize, u8) -> bool| {
-        (0..parts.len()).all(|i| {
-            (0..parts.len())
-                .filter(|&j| j != i)
-                .all(|j| parts[i].iter().all(|&a| parts[j].iter().all(|&b| holds(i, a, j, b))))
-        })
-    };
-    let reaches = |a: u8, b: u8| graph.reached_from(a).contains(&b);
-    match operator {
-        Operator::Choice => across(&|_, a, _, b| !graph.has(a, b)),
-        Operator::Sequence => across(&|i, a, j, b| reaches(a, b) == (i < j)),
-        Operator::Parallel => {
-            let can = |part: &Codes| !part.is_disjoint(&graph.starts) && !part.is_disjoint(&graph.ends);
-            parts.iter().all(can) && across(&|_, a, _, b| graph.has(a, b))
-        }
-        Operator::Loop => {
-            let outer_in_body = graph.starts.union(&graph.ends).all(|code| parts[0].contains(code));
-            let edges = across(&|i, a, j, b| {
-                !graph.has(a, b) || (i == 0 && graph.ends.contains(&a)) || (j == 0 && graph.starts.contains(&b))
-            });
-            let redo_codes = || parts[1..].iter().flatten().copied();
-            let back = redo_codes().all(|a| {
-                let any = parts[0].iter().any(|&b| graph.has(a, b));
-                graph.starts.iter().all(|&start| graph.has(a, start) == any)
-            });
-            let forth = redo_codes().all(|a| {
-                let any = parts[0].iter().any(|&b| graph.has(b, a));
-                graph.ends.iter().all(|&end| graph.has(end, a) == any)
-            });
-            outer_in_body && edges && back && forth
-        }
-    }
-}
-
-/// All ways to divide codes into parts.
-fn divisions(codes: &[u8]) -> Vec<Vec<Codes>> {
-    let Some((&last, rest)) = codes.split_last() else { return vec![vec![]] };
-    let mut all = Vec::new();
-    for division in divisions(rest) {
-        for number in 0..division.len() {
-            let mut joined = division.clone();
-            joined[number].insert(last);
-            all.push(joined);
-        }
-        all.push([division, vec![Codes::from([last])]].concat());
-    }
-    all
-}
-
 /// All orders of the parts.
 fn orders(parts: &[Codes]) -> Vec<Vec<Codes>> {
     if parts.is_empty() {
@@ -121,8 +73,7 @@ fn orders(parts: &[Codes]) -> Vec<Vec<Codes>> {
     (0..parts.len()).flat_map(first).collect()
 }
 
-/// No other division of the codes is a cut with more parts. Parallel is left out: a component that lacks a start or an
-/// end gives up the cut there, though the paper would let it be part of a larger one.
+/// No other division of the codes is a cut with more parts.
 #[test]
 fn no_cut_of_the_papers_has_more_parts() {
     for log in logs(83, 250) {
@@ -132,7 +83,7 @@ fn no_cut_of_the_papers_has_more_parts() {
             continue;
         }
         let all: Vec<Vec<Codes>> = divisions(&codes).iter().flat_map(|division| orders(division)).collect();
-        for operator in [Operator::Choice, Operator::Sequence, Operator::Loop] {
+        for operator in OPERATORS {
             let cuts = all.iter().filter(|parts| is_cut(&graph, operator, parts));
             let most = cuts.map(Vec::len).max().unwrap_or(1);
             assert_eq!(parts_for(operator, &graph).len(), most, "{operator:?} {log:?}");

@@ -2,20 +2,22 @@
 use mathlib.Core.Path.{_≡_, refl, sym, _∙_, ap}
 use mathlib.Core.Logic.{_⊎_, inl, inr, ⊎-elim}
 use mathlib.Core.List.{List, [], _∷_}
-use mathlib.Core.Bool.{Bool, true, false, not, _&&_}
+use mathlib.Core.Bool.{Bool, true, false, not}
 use Prim.Native.Nat.{ℕ, suc, _≤_, _<_}
 use native.Mathlib.Omega.{arith}
 use lib.ListN.{length}
 use borrow.Author.Tests.{lt-ltb}
 use Rattle.rules.specs.declared.Operator.{Operator}
 use Rattle.rules.specs.declared.Operator.the-variants.{Choice, Sequence, Parallel, Loop}
-use Rattle.rules.specs.Words.{any, all, push, keep, from}
+use Rattle.rules.specs.Words.{pick, any, push, keep, from}
 use Rattle.rules.specs.Trees.{Op, choice, sequence, parallel, loop}
 use Rattle.rules.specs.Mining as mining
-use Rattle.rules.specs.Mining.{Rel, Shape, nothing, flower, cut, orElse, cutOr, reach, components, join, either, together, headOf, place, placeBy, ordered, notBoth, onlyIf, onBorder, isRedo, choiceParts, sequenceParts, parallelParts, redoParts, loopParts}
+use Rattle.rules.specs.Mining.{Rel, Shape, nothing, flower, cut, orElse, cutOr, reach, components, join, either, together, notBoth, hasStart, onBorder, isRedo, choiceParts, sequenceParts, parallelParts, redoParts, loopParts}
 use Rattle.rules.specs.Calls.{codeCount}
 use Rattle.rules.proofs.BoolLaws.{bool-cases, clash}
 use Rattle.rules.proofs.ListLaws.{Has, has-any, false-any, keep-all, length-from}
+use Rattle.rules.proofs.Order.{length-ordered}
+use Rattle.rules.proofs.ParallelParts.{parallel-number}
 use Rattle.code_sets.specs.Bits.{has, listed}
 use Rattle.graph_rows.specs.declared.Graph.{Graph}
 use Rattle.graph_rows.specs.Edges.{meant}
@@ -72,7 +74,7 @@ pub room : (g : mining.Graph) → length (g .codes) ≤ codeCount → length (ch
 unfolding roomed redoParts
 room g l h =
     let parts : List (List ℕ) = components (either (g .edge)) (keep (λ a. not (onBorder g a)) (g .codes)) in
-    ap (λ (b : Bool). onlyIf b (loopParts g)) (lt-ltb (length (redoParts g)) codeCount (omega (arith, fewer codeCount g l (omega arith) h, length-keep (isRedo g (keep (onBorder g) (g .codes))) parts)))
+    ap (λ (b : Bool). pick b (loopParts g) []) (lt-ltb (length (redoParts g)) codeCount (omega (arith, fewer codeCount g l (omega arith) h, length-keep (isRedo g (keep (onBorder g) (g .codes))) parts)))
 
 -- the groups in the order of reach are the parts of the sequence, where every edge is between codes of the set
 pub ordered-parts : (g : Graph) (kept : ℕ) → Table codeCount (g .rows) → Inside g kept → inSequence (g .rows) kept ≡ sequenceParts (meant g kept)
@@ -165,35 +167,18 @@ module _ (g : Graph) (kept : ℕ) (ch : Parts) (choices : Looked ch (choiceParts
 
 -- ---- one code alone has no choice, sequence or parallel cut
 
-length-placed : (b : Bool) (p q : List ℕ) (qs later : List (List ℕ)) → length later ≡ suc (length qs) → length (placeBy b p q qs later) ≡ suc (suc (length qs))
-length-placed true p q qs later e = refl
-length-placed false p q qs later e = ap suc e
-
-length-place : (r : Rel) (p : List ℕ) (qs : List (List ℕ)) → length (place r p qs) ≡ suc (length qs)
-length-place r p [] = refl
-length-place r p (q ∷ qs) = length-placed (r (headOf p) (headOf q)) p q qs (place r p qs) (length-place r p qs)
-
-length-ordered : (r : Rel) (ps : List (List ℕ)) → length (ordered r ps) ≡ length ps
-length-ordered r [] = refl
-length-ordered r (p ∷ ps) = length-place r p (ordered r ps) ∙ ap suc (length-ordered r ps)
-
-length-only : (b : Bool) (ps : List (List ℕ)) → length (onlyIf b ps) ≤ length ps
-length-only true ps = omega arith
-length-only false ps = omega arith
-
 -- no cut of the first three
 abbrev pub Later : mining.Graph → Type 0
 Later g = (s : Shape) → s ≡ orElse choice (choiceParts g) (orElse sequence (sequenceParts g) (orElse parallel (parallelParts g) s))
 
 pub later-alone : (g : mining.Graph) → length (g .codes) < 2 → Later g
-unfolding choiceParts sequenceParts parallelParts
+unfolding choiceParts sequenceParts
 later-alone g l s =
     let few : (r : Rel) → length (components r (g .codes)) < 2 = λ r. omega (arith, length-components r (g .codes)) in
     let a = few (either (g .edge)) in
     let b = few (together (reach g)) in
     let d = few (notBoth (g .edge)) in
-    let ps : List (List ℕ) = components (notBoth (g .edge)) (g .codes) in
-    cut-later parallel s (parallelParts g) (omega (arith, length-only (all (λ p. any (g .start) p && any (g .end) p) ps) ps))
+    cut-later parallel s (parallelParts g) (omega (arith, parallel-number g, length-keep (hasStart g) (components (notBoth (g .edge)) (g .codes))))
     ∙ cut-later sequence (orElse parallel (parallelParts g) s) (sequenceParts g) (omega (arith, length-ordered (reach g) (components (together (reach g)) (g .codes))))
     ∙ cut-later choice (orElse sequence (sequenceParts g) (orElse parallel (parallelParts g) s)) (choiceParts g) a
 

@@ -6,9 +6,9 @@ use Prim.Native.Nat.{ℕ, _^_, _≤_, _<_}
 use native.Mathlib.Omega.{arith}
 use lib.ListN.{length}
 use borrow.Author.Tests.{lt-ltb, le-ltb}
-use Rattle.rules.specs.Words.{any, all, keep, each, mem, from}
+use Rattle.rules.specs.Words.{pick, any, all, keep, each, mem, from}
 use Rattle.rules.specs.Mining as mining
-use Rattle.rules.specs.Mining.{Rel, components, either, onlyIf, onBorder, isRedo, redoParts, bodyPart, loopParts}
+use Rattle.rules.specs.Mining.{Rel, components, either, onBorder, isRedo, redoParts, bodyPart, loopParts}
 use Rattle.rules.specs.Calls.{codeCount}
 use Rattle.rules.proofs.ListLaws.{keep-both, keep-ext, from-has}
 use Rattle.rules.proofs.FilterLaws.{any-ext, keep-each, any-each}
@@ -91,8 +91,8 @@ module _ (m kept : ℕ) (edge : Rel) (starts ends border rest : ℕ)
 
 pub roomed-on : (g : mining.Graph) (ps : List (List ℕ)) → length (redoParts g) < codeCount → ps ≡ loopParts g → ps ≡ roomed g
 unfolding roomed
-roomed-on g ps l e = e ∙ ap (λ (b : Bool). onlyIf b (loopParts g)) (sym (lt-ltb (length (redoParts g)) codeCount l))
+roomed-on g ps l e = e ∙ ap (λ (b : Bool). pick b (loopParts g) []) (sym (lt-ltb (length (redoParts g)) codeCount l))
 
 pub roomed-off : (g : mining.Graph) → codeCount ≤ length (redoParts g) → [] ≡ roomed g
 unfolding roomed
-roomed-off g l = ap (λ (b : Bool). onlyIf b (loopParts g)) (sym (le-ltb (length (redoParts g)) codeCount l))
+roomed-off g l = ap (λ (b : Bool). pick b (loopParts g) []) (sym (le-ltb (length (redoParts g)) codeCount l))

@@ -1,10 +1,9 @@
 // Loop: the body, then the redo parts.
 ghost use mathlib.Core.Path.{_≡_};
-ghost use mathlib.Core.Bool.{not, _&&_};
-ghost use Prim.Native.Nat.{ℕ, _≤_};
-ghost use Rattle.rules.specs.Words.{any, keep};
+ghost use mathlib.Core.Bool.{not};
+ghost use Prim.Native.Nat.{_≤_};
+ghost use Rattle.rules.specs.Words.{keep};
 ghost use Rattle.rules.specs.Calls.{codeCount};
-ghost use Rattle.code_sets.specs.Bits.{has};
 ghost use Rattle.graph_rows.specs.Edges.{meant};
 ghost use Rattle.graph_reverse.specs.Reverse.{Back};
 ghost use Rattle.cut_parts.specs.Sets.{setsOf, listsOf, meets};
@@ -35,22 +34,6 @@ fn parts_without(parts: Parts, codes: Bits) -> Parts
     out
 }
 
-// The codes that stand in no part.
-fn body_of(parts: Parts, keep: Bits) -> Bits
-    requires { ⌜ parts .n ≤ codeCount ⌝ }
-    ensures { λ r. ⌜ ((c : ℕ) → has r c ≡ (has keep c && not (any (λ p. has p c) (setsOf parts)))) ⌝ }
-{
-    let n = parts.n;
-    let sets = parts.sets;
-    let mut body = keep;
-    let mut i: usize = 0;
-    while i < n {
-        body &= !sets[i];
-        i += 1;
-    }
-    body
-}
-
 // Loop: the body, then the components without starts and ends that are redo parts.
 pub fn loop_parts(g: Graph, cols: [Bits; CODE_COUNT], keep: CodeSet) -> Parts
     requires { ⌜ Back (g .rows) cols ⌝ }
@@ -62,7 +45,7 @@ pub fn loop_parts(g: Graph, cols: [Bits; CODE_COUNT], keep: CodeSet) -> Parts
     let parts = cut_components::components(rows, cols, Bond::Either, rest);
     let redos = parts_without(parts, cut_redos::unfit_codes(g, cols, border.bits));
     if redos.n < CODE_COUNT {
-        return cut_parts::inserted(redos, 0, body_of(redos, keep.bits));
+        return cut_parts::inserted(redos, 0, cut_parts::remaining(redos, keep.bits));
     }
     Parts::new()
 }

@@ -3,9 +3,12 @@ use code_sets::Bits;
 use rules::CODE_COUNT;
 ghost use mathlib.Core.Path.{_≡_};
 ghost use mathlib.Core.List.{[], _∷_, _++_};
-ghost use Prim.Native.Nat.{_+_, _≤_, _<_};
+ghost use mathlib.Core.Bool.{not, _&&_};
+ghost use Prim.Native.Nat.{ℕ, _+_, _≤_, _<_};
 ghost use lib.ListN.{take, drop};
+ghost use Rattle.rules.specs.Words.{any};
 ghost use Rattle.rules.specs.Calls.{codeCount};
+ghost use Rattle.code_sets.specs.Bits.{has};
 ghost use Rattle.cut_parts.specs.Sets.{setsOf};
 
 // Some sets of codes in order, the first n of `sets`.
@@ -54,4 +57,20 @@ pub fn inserted(parts: Parts, at: usize, part: Bits) -> Parts
     }
     sets[n] = hand;
     Parts { n: n + 1, sets }
+}
+
+// The codes that stand in no part.
+pub fn remaining(parts: Parts, codes: Bits) -> Bits
+    requires { ⌜ parts .n ≤ codeCount ⌝ }
+    ensures { λ r. ⌜ ((c : ℕ) → has r c ≡ (has codes c && not (any (λ p. has p c) (setsOf parts)))) ⌝ }
+{
+    let n = parts.n;
+    let sets = parts.sets;
+    let mut left = codes;
+    let mut i: usize = 0;
+    while i < n {
+        left &= !sets[i];
+        i += 1;
+    }
+    left
 }

@@ -129,3 +129,12 @@ digits-more m t set i d l b e h a =
     rw (le-ltb a i (omega arith), lt-ltb a (i + 1) (omega arith), y) (ap t (sym q)))
     (λ (y : eqb a i ≡ false). let q = eqb-false a i y in rw y (or-off (ltb a i && t a) ∙ ap (λ (v : Bool). v && t a) (ltb-more a i q)))
     (bool-cases (eqb a i))
+
+-- the place i, where the test fails
+pub digits-skip : (t : ℕ → Bool) (set i : ℕ) → t i ≡ false → ((a : ℕ) → has set a ≡ (ltb a i && t a)) → (a : ℕ) → has set a ≡ (ltb a (i + 1) && t a)
+digits-skip t set i e h a =
+    h a
+    ∙ ⊎-elim
+    (λ (y : eqb a i ≡ true). let off : t a ≡ false = ap t (eqb-true a i y) ∙ e in ap (λ (v : Bool). ltb a i && v) off ∙ and-off (ltb a i) ∙ sym (ap (λ (v : Bool). ltb a (i + 1) && v) off ∙ and-off (ltb a (i + 1))))
+    (λ (y : eqb a i ≡ false). ap (λ (v : Bool). v && t a) (ltb-more a i (eqb-false a i y)))
+    (bool-cases (eqb a i))

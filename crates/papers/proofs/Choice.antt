@@ -43,5 +43,5 @@ module _ (m : ℕ) (l : Log) (s : Below m l) where
       no-more (either e) (either-sym e) (occurring m l) qs
       (λ i a b x ia ib h. only-there (graphOf l) qs (c .cut) i b (nodes m l s b .0 ib)
       (λ j n y. ⊎-elim (λ ab. c .condition-1 i j n a b x y (edges m l s a b .0 ab)) (λ ba. c .condition-1 j i (λ q. n (sym q)) b a y x (edges m l s b a .0 ba)) (or-cases (e a b) (e b a) h)))
-      (part-code m l s qs (c .cut))
       (c .cut .disjoint)
+      (part-code m l s qs (c .cut))

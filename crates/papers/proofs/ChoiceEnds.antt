@@ -1,4 +1,4 @@
--- The words before Definition 5 of 000: "each Σi has a start node and an end node". Its one condition gives that too.
+-- What 000 says in words ahead of Definition 5, that no part lacks a start node or an end node, follows from its one condition.
 use mathlib.Core.Path.{refl, sym, subst}
 use mathlib.Core.Logic.{inl, inr}
 use mathlib.Core.List.{List, [], _∷_, _++_, append-assoc}

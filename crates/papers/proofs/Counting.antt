@@ -1,15 +1,15 @@
--- Parts counted against components: where no component meets two parts, there are no more parts than components.
-use mathlib.Core.Path.{_≡_, sym, _∙_, subst}
+-- Parts counted against components: where no component meets two parts and each part meets one that passes a test, there are no more parts than components that pass it.
+use mathlib.Core.Path.{_≡_, refl, sym, _∙_, ap, subst}
 use mathlib.Core.Logic.{_≢_, ⊎-elim}
 use mathlib.Core.List.{List, [], _∷_}
-use mathlib.Core.Bool.{true}
+use mathlib.Core.Bool.{Bool, true}
 use Prim.Native.Nat.{ℕ, suc, _≤_, _<_}
 use native.Mathlib.Omega.{arith}
 use lib.ListN.{length}
-use Rattle.rules.specs.Words.{mem}
+use Rattle.rules.specs.Words.{keep, mem}
 use Rattle.rules.specs.Mining.{Rel, components}
 use Rattle.rules.proofs.BoolLaws.{bool-ext}
-use Rattle.rules.proofs.ListLaws.{Has, mem-has, has-mem}
+use Rattle.rules.proofs.ListLaws.{Has, has-keep, keep-has, keep-all, mem-has, has-mem}
 use Rattle.rules.proofs.Distinct.{remove}
 use Rattle.rules.proofs.Components.{Symmetric, part-in, covered, constant}
 use Rattle.papers.specs.Cuts.{Σ}
@@ -55,9 +55,20 @@ module _ (r : Rel) (sy : Symmetric r) (cs : List ℕ) (qs : List (List ℕ)) (ke
       (λ x. has-mem c (Σ qs i) (kept i d c (mem-has d (Σ qs i) x) (code d id) (code c ic) (sy c d rel)))) a b ia ib)
       ∙ has-mem a (Σ qs i) h)
 
-  -- THEOREM: disjoint parts with codes of which related ones are in the same part are no more than the components
-  pub no-more : ((i : ℕ) → i < length qs → (a : ℕ) × Has a (Σ qs i) × Has a cs) → ((i j : ℕ) → i ≢ j → (a : ℕ) → Has a (Σ qs i) → Has a (Σ qs j) → ⊥) →
-      length qs ≤ length (components r cs)
-  no-more some disjoint =
-      pigeonhole qs (components r cs) (λ i h. let k = some i h in let q = covered r cs (k .0) (k .2) in (q .0, q .1, (k .0, k .1, q .2)))
-      (λ g m i j x y. same-place i j (λ n. disjoint i j n (y .0) (within i g m (x .0) (y .0) (x .2) (y .2) (x .1)) (y .1)))
+  module _ (disjoint : (i j : ℕ) → i ≢ j → (a : ℕ) → Has a (Σ qs i) → Has a (Σ qs j) → ⊥) where
+    -- THEOREM: disjoint parts, each with a code whose component passes a test, with related codes in the same part, are no more than the components that pass it
+    pub no-more-passing : (t : List ℕ → Bool) → ((i : ℕ) → i < length qs → (a : ℕ) × Has a (Σ qs i) × Has a cs × ((g : List ℕ) → Has g (components r cs) → Has a g → t g ≡ true)) →
+        length qs ≤ length (keep t (components r cs))
+    no-more-passing t some =
+        pigeonhole qs (keep t (components r cs))
+        (λ i h. let k = some i h in let q = covered r cs (k .0) (k .2) in (q .0, keep-has t (q .0) (components r cs) (q .1) (k .3 (q .0) (q .1) (q .2)), (k .0, k .1, q .2)))
+        (λ g m i j x y. same-place i j
+        (λ n. disjoint i j n (y .0) (within i g (has-keep t g (components r cs) m .0) (x .0) (y .0) (x .2) (y .2) (x .1)) (y .1)))
+
+    -- THEOREM: so disjoint parts with codes are no more than the components
+    pub no-more : ((i : ℕ) → i < length qs → (a : ℕ) × Has a (Σ qs i) × Has a cs) → length qs ≤ length (components r cs)
+    no-more some =
+        let all : List ℕ → Bool = λ g. true in
+        let e = ap length (keep-all all (components r cs) (λ g m. refl)) in
+        let k = no-more-passing all (λ i h. let q = some i h in (q .0, q .1, q .2, λ g m n. refl)) in
+        omega arith

@@ -13,4 +13,3 @@ pub mod Taken
 pub mod PassedOver
 pub mod Rows
 pub mod WholeBody
-pub mod GivenUp

@@ -3,21 +3,19 @@ use mathlib.Core.Path.{_≡_, sym, ap}
 use mathlib.Core.Logic.{_≢_, inl, inr, ⊎-elim}
 use mathlib.Core.List.{List, [], _∷_}
 use mathlib.Core.Bool.{true, false, not}
-use Prim.Native.Nat.{ℕ, zero, suc, _≤_, _<_}
+use Prim.Native.Nat.{ℕ, zero, suc, _≤_}
 use native.Mathlib.Omega.{arith}
 use lib.ListN.{length}
 use borrow.Author.Tests.{not-true}
-use Rattle.rules.specs.Mining.{Log, graph, occurring, components, either, onBorder, isRedo, redoParts, loopParts}
+use Rattle.rules.specs.Mining.{Log, graph, occurring, either, onBorder, isRedo, redoParts, loopParts}
 use Rattle.rules.proofs.BoolLaws.{bool-cases, not-both, or-cases, or-left, or-right}
 use Rattle.rules.proofs.ListLaws.{Has, has-keep, keep-has}
 use Rattle.rules.proofs.Occurring.{Below}
-use Rattle.rules.proofs.Components.{covered}
-use Rattle.rules.proofs.Cuts.{either-sym, rest, redo-component}
+use Rattle.rules.proofs.Cuts.{either-sym, rest}
 use Rattle.papers.specs.Cuts.{graphOf, Σ, LoopCut, Maximal}
-use Rattle.papers.proofs.Places.{same-place}
 use Rattle.papers.proofs.Graphs.{nodes, edges, starts, ends}
 use Rattle.papers.proofs.Partitions.{part-code, only-there}
-use Rattle.papers.proofs.Counting.{Meets, pigeonhole, Kept, within}
+use Rattle.papers.proofs.Counting.{Kept, within, no-more-passing}
 use Rattle.papers.proofs.RedoCodes.{RedoCode, code-redo}
 use Rattle.papers.proofs.Loop.{border}
 
@@ -70,29 +68,20 @@ module _ (m : ℕ) (l : Log) (s : Below m l) (q : List ℕ) (qs : List (List ℕ
       ⊎-elim (λ (t : onBorder g a ≡ true). absurd (c .cut .disjoint 0 (suc i) (omega arith) a (on-border a t) x))
       (λ (t : onBorder g a ≡ false). keep-has (λ y. not (onBorder g y)) a (occurring m l) ia (ap not t)) (bool-cases (onBorder g a))
 
-  -- each later part meets a redo part of the rules
-  meets : (i : ℕ) → i < length qs → (p : List ℕ) × Has p (redoParts (graph m l)) × Meets qs i p
-  unfolding redoParts graph rest
-  meets i h =
-      let e = graph m l .edge in
-      let k = part-code m l s (q ∷ qs) (c .cut) (suc i) (omega arith) in
-      let a = k .0 in
-      let p = covered (either e) (rest m l) a (in-rest i a (k .1) (k .2)) in (
-        p .0,
-        keep-has (isRedo (graph m l) (border m l)) (p .0) (components (either e) (rest m l)) (p .1)
-            (code-redo (graph m l) (border m l) (p .0) (λ x ix. later i x (within (either e) (either-sym e) (rest m l) qs kept i (p .0) (p .1) a x (p .2) ix (k .1)))),
-        (a, k .1, p .2),
-      )
-
-  -- and no two the same
-  apart : (p : List ℕ) → Has p (redoParts (graph m l)) → (i j : ℕ) → Meets qs i p → Meets qs j p → i ≡ j
-  apart p ip i j x y =
-      let e = graph m l .edge in
-      same-place i j
-      (λ n. c .cut .disjoint (suc i) (suc j) (λ k. n (omega arith)) (y .0) (within (either e) (either-sym e) (rest m l) qs kept i p (redo-component m l p ip) (x .0) (y .0) (x .2) (y .2) (x .1)) (y .1))
-
+  -- each later part has a code whose component is a redo part of the rules
   no-more-redos : length qs ≤ length (redoParts (graph m l))
-  no-more-redos = pigeonhole qs (redoParts (graph m l)) meets apart
+  unfolding redoParts graph rest
+  no-more-redos =
+      let e = graph m l .edge in
+      no-more-passing (either e) (either-sym e) (rest m l) qs kept (λ i j n. c .cut .disjoint (suc i) (suc j) (λ k. n (omega arith))) (isRedo (graph m l) (border m l))
+      (λ i h.
+      let k = part-code m l s (q ∷ qs) (c .cut) (suc i) (omega arith) in
+      let a = k .0 in (
+        a,
+        k .1,
+        in-rest i a (k .1) (k .2),
+        λ p ip ia. code-redo (graph m l) (border m l) p (λ x ix. later i x (within (either e) (either-sym e) (rest m l) qs kept i p ip a x ia ix (k .1))),
+      ))
 
 -- THEOREM: no loop cut of the graph has more parts
 pub loop-maximal : (m : ℕ) (l : Log) → Below m l → Maximal (LoopCut (graphOf l)) (loopParts (graph m l))

@@ -1,93 +1,90 @@
 -- The parts of parallel, where there are any, are a cut by Definition 7 of 000, and none has more parts.
-use mathlib.Core.Path.{_≡_, refl, _∙_, ap}
+use mathlib.Core.Path.{_≡_, _∙_, ap}
 use mathlib.Core.Logic.{_≢_, ⊎-elim}
 use mathlib.Core.List.{List, []}
 use mathlib.Core.Bool.{Bool, true, false, not, _&&_}
-use Prim.Native.Nat.{ℕ, _≤_}
+use Prim.Native.Nat.{ℕ, _≤_, _<_}
+use native.Mathlib.Omega.{arith}
 use lib.ListN.{length}
 use borrow.Author.Tests.{not-true, not-false}
-use Rattle.rules.specs.Words.{any, all}
-use Rattle.rules.specs.Mining.{Log, Rel, graph, occurring, components, notBoth, onlyIf, parallelParts}
+use Rattle.rules.specs.Words.{any, keep}
+use Rattle.rules.specs.Mining.{Log, Rel, graph, occurring, notBoth, parallelParts}
 use Rattle.rules.proofs.BoolLaws.{bool-cases, not-both, and-both, and-cases, and-comm}
-use Rattle.rules.proofs.ListLaws.{Has, any-has, has-any, all-has, has-all}
-use Rattle.rules.proofs.Occurring.{Below, occurring-distinct}
-use Rattle.rules.proofs.Components.{Symmetric, part-in, closed}
-use Rattle.rules.proofs.Cuts.{components-parting}
-use Rattle.papers.specs.Cuts.{graphOf, Σ, StartAndEnd, ParallelCut, Maximal}
+use Rattle.rules.proofs.ListLaws.{Has, any-has, has-any}
+use Rattle.rules.proofs.Occurring.{Below}
+use Rattle.rules.proofs.Components.{Symmetric, covered, closed}
+use Rattle.rules.proofs.ParallelParts.{groups, some-parting, parallel-untorn, parallel-ends, parallel-number}
+use Rattle.papers.specs.Cuts.{graphOf, Σ, StartAndEnd, ParallelCut, Nontrivial, Maximal}
 use Rattle.papers.proofs.Places.{part-has, part-below}
 use Rattle.papers.proofs.Graphs.{nodes, edges, starts, ends}
-use Rattle.papers.proofs.Partitions.{parting-cut, part-code, only-there}
-use Rattle.papers.proofs.Counting.{no-more}
+use Rattle.papers.proofs.Partitions.{parting-cut, only-there}
+use Rattle.papers.proofs.Counting.{Kept, no-more-passing}
 
 not-both-sym : (e : Rel) → Symmetric (notBoth e)
 not-both-sym e a b h = ap not (and-comm (e b a) (e a b)) ∙ h
 
-found : (F : List (List ℕ) → Type 0) (b : Bool) (ps : List (List ℕ)) → onlyIf b ps ≢ [] → (b ≡ true → F ps) → F (onlyIf b ps)
-found F true ps n f = f refl
-found F false ps n f = absurd (n refl)
-
 module _ (m : ℕ) (l : Log) (s : Below m l) where
+  -- ---- a cut by Definition 7 against the components
+
+  module _ (qs : List (List ℕ)) (c : ParallelCut (graphOf l) qs) where
+    -- two codes of which not both edges exist are in the same part
+    kept : Kept (notBoth (graph m l .edge)) (occurring m l) qs
+    kept i a b x ia ib h =
+        let e = graph m l .edge in
+        only-there (graphOf l) qs (c .cut) i b (nodes m l s b .0 ib)
+        (λ j d y.
+        let k : graphOf l .edge a b × graphOf l .edge b a = c .condition-2 i j d a b x y in
+        not-both (e a b && e b a) (and-both (e a b) (e b a) (edges m l s a b .1 (k .0)) (edges m l s b a .1 (k .1))) (not-true (e a b && e b a) h))
+
+    -- where each part has a code that passes a test, there are no more parts than components with such a code
+    no-more-with : (t : ℕ → Bool) → ((i : ℕ) → i < length qs → (a : ℕ) × Has a (Σ qs i) × (t a ≡ true)) → length qs ≤ length (keep (any t) (groups m l))
+    no-more-with t some =
+        no-more-passing (notBoth (graph m l .edge)) (not-both-sym (graph m l .edge)) (occurring m l) qs kept (c .cut .disjoint) (any t)
+        (λ i h. let k = some i h in (k .0, k .1, nodes m l s (k .0) .1 (c .cut .of-nodes i (k .0) (k .1)), λ g _ j. any-has t (k .0) g j (k .2)))
+
+  -- THEOREM: no parallel cut of the graph has more parts
+  pub parallel-maximal : Maximal (ParallelCut (graphOf l)) (parallelParts (graph m l))
+  unfolding graph
+  parallel-maximal qs c =
+      let g = graph m l in
+      let starting = no-more-with qs c (g .start) (λ i h. let k = c .condition-1 i h .0 in (k .0, k .1, starts m l (k .0) .1 (k .2))) in
+      let ending = no-more-with qs c (g .end) (λ i h. let k = c .condition-1 i h .1 in (k .0, k .1, ends m l (k .0) .1 (k .2))) in
+      omega (arith, parallel-number g)
+
+  -- THEOREM: so where the graph has a nontrivial parallel cut, parallel has two parts or more
+  pub parallel-found : (qs : List (List ℕ)) → ParallelCut (graphOf l) qs → Nontrivial qs → Nontrivial (parallelParts (graph m l))
+  parallel-found qs c h = let k = parallel-maximal qs c in omega arith
+
+  -- ---- the parts of parallel
+
+  part-ends : (p : List ℕ) → Has p (parallelParts (graph m l)) → StartAndEnd (graphOf l) p
+  part-ends p i =
+      let g = graph m l in
+      let k = parallel-ends m l p i in
+      let x = has-any (g .start) p (k .0) in
+      let y = has-any (g .end) p (k .1) in
+      ((x .0, x .1, starts m l (x .0) .0 (x .2)), (y .0, y .1, ends m l (y .0) .0 (y .2)))
+
+  -- a part has the codes that lack an edge with one of its codes
+  stays : (p : List ℕ) → Has p (parallelParts (graph m l)) → (a b : ℕ) → Has a p → Has a (occurring m l) → Has b (occurring m l) → notBoth (graph m l .edge) a b ≡ true → Has b p
+  stays p ip a b x ia ib h =
+      let e = graph m l .edge in
+      let g = covered (notBoth e) (occurring m l) a ia in
+      parallel-untorn m l (g .0) (g .1) p ip a b (g .2) (closed (notBoth e) (not-both-sym e) (occurring m l) (g .0) (g .1) a b (g .2) ib h) x
+
   -- THEOREM: the parts of parallel, where there are any, are a parallel cut
   pub parallel-cut : parallelParts (graph m l) ≢ [] → ParallelCut (graphOf l) (parallelParts (graph m l))
-  unfolding parallelParts graph
   parallel-cut n =
-      let g = graph m l in
-      let e = g .edge in
-      let cs = occurring m l in
-      let ps = components (notBoth e) cs in
-      let c = parting-cut m l s ps (components-parting (notBoth e) cs (occurring-distinct m l)) in
-      found (ParallelCut (graphOf l)) (all (λ p. any (g .start) p && any (g .end) p) ps) ps n
-      (λ every.
+      let e = graph m l .edge in
+      let ps = parallelParts (graph m l) in
+      let c = parting-cut m l s ps (some-parting m l n) in
+      let code : (i a : ℕ) → Has a (Σ ps i) → Has a (occurring m l) = λ i a x. nodes m l s a .1 (c .of-nodes i a x) in
       record {
         cut = c;
-        condition-1 = λ i h.
-            let p = Σ ps i in
-            let both = and-cases (any (g .start) p) (any (g .end) p) (all-has (λ q. any (g .start) q && any (g .end) q) p ps every (part-below ps i h)) in
-            let x = has-any (g .start) p (both .0) in
-            let y = has-any (g .end) p (both .1) in
-            ((x .0, x .1, starts m l (x .0) .0 (x .2)), (y .0, y .1, ends m l (y .0) .0 (y .2)));
+        condition-1 = λ i h. part-ends (Σ ps i) (part-below ps i h);
         condition-2 = λ i j d a b x y.
-            ⊎-elim
-            (λ (t : notBoth e a b ≡ true).
-            absurd (c .disjoint i j d b (closed (notBoth e) (not-both-sym e) cs (Σ ps i) (part-has ps i a x) a b x (part-in (notBoth e) cs (Σ ps j) (part-has ps j b y) b y) t) y))
+            ⊎-elim (λ (t : notBoth e a b ≡ true). absurd (c .disjoint i j d b (stays (Σ ps i) (part-has ps i a x) a b x (code i a x) (code j b y) t) y))
             (λ (t : notBoth e a b ≡ false).
             let both = and-cases (e a b) (e b a) (not-false (e a b && e b a) t) in (edges m l s a b .0 (both .0), edges m l s b a .0 (both .1)))
             (bool-cases (notBoth e a b));
-      })
-
-  -- THEOREM: no parallel cut of the graph has more parts than there are components of two codes joined unless both edges exist
-  pub parallel-bound : (qs : List (List ℕ)) → ParallelCut (graphOf l) qs → length qs ≤ length (components (notBoth (graph m l .edge)) (occurring m l))
-  parallel-bound qs c =
-      let e = graph m l .edge in
-      no-more (notBoth e) (not-both-sym e) (occurring m l) qs
-      (λ i a b x ia ib h. only-there (graphOf l) qs (c .cut) i b (nodes m l s b .0 ib)
-      (λ j d y. let k = c .condition-2 i j d a b x y in
-      not-both (e a b && e b a) (and-both (e a b) (e b a) (edges m l s a b .1 (k .0)) (edges m l s b a .1 (k .1))) (not-true (e a b && e b a) h)))
-      (part-code m l s qs (c .cut))
-      (c .cut .disjoint)
-
-  -- THEOREM: so where parallel has parts, no parallel cut of the graph has more
-  pub parallel-maximal : parallelParts (graph m l) ≢ [] → Maximal (ParallelCut (graphOf l)) (parallelParts (graph m l))
-  unfolding parallelParts graph
-  parallel-maximal n =
-      let g = graph m l in
-      let ps = components (notBoth (g .edge)) (occurring m l) in
-      found (Maximal (ParallelCut (graphOf l))) (all (λ p. any (g .start) p && any (g .end) p) ps) ps n (λ every. parallel-bound)
-
--- each component of two codes joined unless both edges exist has a start node and an end node
-abbrev pub Complete : ℕ → Log → Type 0
-Complete m l = (p : List ℕ) → Has p (components (notBoth (graph m l .edge)) (occurring m l)) → StartAndEnd (graphOf l) p
-
--- THEOREM: then the rules do not give up: the components are the parts
-pub parallel-complete : (m : ℕ) (l : Log) → Complete m l → parallelParts (graph m l) ≡ components (notBoth (graph m l .edge)) (occurring m l)
-unfolding parallelParts graph
-parallel-complete m l f =
-    let g = graph m l in
-    let ps = components (notBoth (g .edge)) (occurring m l) in
-    let every : all (λ p. any (g .start) p && any (g .end) p) ps ≡ true =
-    has-all (λ p. any (g .start) p && any (g .end) p) ps
-    (λ p i. let k = f p i in
-    let x = k .0 in
-    let y = k .1 in
-    and-both (any (g .start) p) (any (g .end) p) (any-has (g .start) (x .0) p (x .1) (starts m l (x .0) .1 (x .2))) (any-has (g .end) (y .0) p (y .1) (ends m l (y .0) .1 (y .2)))) in
-    ap (λ (t : Bool). onlyIf t ps) every
+      }

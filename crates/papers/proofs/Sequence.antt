@@ -1,38 +1,23 @@
 -- The parts of sequence are a cut by Definition 6 of 000, and none has more parts.
-use mathlib.Core.Path.{_≡_, refl, sym, _∙_, ap}
+use mathlib.Core.Path.{_≡_, sym, _∙_}
 use mathlib.Core.Logic.{⊎-elim}
-use mathlib.Core.List.{List, [], _∷_}
-use mathlib.Core.Bool.{Bool, true, false}
-use Prim.Native.Nat.{ℕ, suc, _<_}
+use mathlib.Core.List.{List}
+use mathlib.Core.Bool.{true, false}
+use Prim.Native.Nat.{ℕ, _<_}
 use native.Mathlib.Omega.{arith}
 use lib.Dec.{ltb}
-use lib.ListN.{length}
 use borrow.Author.Tests.{ltb-true, ltb-false}
-use Rattle.rules.specs.Mining.{Log, Rel, graph, occurring, reach, together, components, headOf, placeBy, place, ordered, sequenceParts}
+use Rattle.rules.specs.Mining.{Log, graph, occurring, reach, together, components, sequenceParts}
 use Rattle.rules.proofs.BoolLaws.{bool-cases, not-both, beq-true}
 use Rattle.rules.proofs.ListLaws.{Has}
 use Rattle.rules.proofs.Occurring.{Below}
-use Rattle.rules.proofs.Order.{together-sym, sequence-order}
+use Rattle.rules.proofs.Order.{length-ordered, together-sym, sequence-order}
 use Rattle.rules.proofs.Cuts.{sequence-parting}
 use Rattle.papers.specs.Cuts.{graphOf, Σ, SequenceCut, Maximal}
 use Rattle.papers.proofs.Places.{order-at}
 use Rattle.papers.proofs.Graphs.{nodes, reaches}
 use Rattle.papers.proofs.Partitions.{parting-cut, part-code, only-there}
 use Rattle.papers.proofs.Counting.{no-more}
-
--- ---- putting parts in order changes their places only
-
-place-length : (r : Rel) (p : List ℕ) (qs : List (List ℕ)) → length (place r p qs) ≡ suc (length qs)
-place-length r p [] = refl
-place-length r p (q ∷ qs) = by (r (headOf p) (headOf q)) (place-length r p qs)
-  where
-    by : (b : Bool) → length (place r p qs) ≡ suc (length qs) → length (placeBy b p q qs (place r p qs)) ≡ suc (suc (length qs))
-    by true e = refl
-    by false e = ap suc e
-
-ordered-length : (r : Rel) (ps : List (List ℕ)) → length (ordered r ps) ≡ length ps
-ordered-length r [] = refl
-ordered-length r (p ∷ ps) = place-length r p (ordered r ps) ∙ ap suc (ordered-length r ps)
 
 module _ (m : ℕ) (l : Log) (s : Below m l) where
   -- THEOREM: the parts of sequence are a sequence cut
@@ -58,12 +43,12 @@ module _ (m : ℕ) (l : Log) (s : Below m l) where
   sequence-maximal qs c =
       let r = reach (graph m l) in
       let gs = components (together r) (occurring m l) in
-      let e = ordered-length r gs in
+      let e = length-ordered r gs in
       let k = no-more (together r) (together-sym r) (occurring m l) qs
       (λ i a b x ia ib h. only-there (graphOf l) qs (c .cut) i b (nodes m l s b .0 ib)
       (λ j n y. let q = beq-true (r a b) (r b a) h in
       ⊎-elim (λ (t : ltb i j ≡ true). earlier qs c i j (ltb-true i j t) a b x y q)
       (λ (t : ltb i j ≡ false). let le = ltb-false i j t in earlier qs c j i (omega arith) b a y x (sym q)) (bool-cases (ltb i j))))
-      (part-code m l s qs (c .cut))
-      (c .cut .disjoint) in
+      (c .cut .disjoint)
+      (part-code m l s qs (c .cut)) in
       omega arith

@@ -1,24 +1,21 @@
 -- A cut that is taken is a maximal cut of the papers, at every node of a mined tree.
 use mathlib.Core.Path.{_≡_, refl, sym, subst}
-use mathlib.Core.Logic.{_≢_, inl}
+use mathlib.Core.Logic.{inl}
 use mathlib.Core.List.{List, [], _∷_}
 use Prim.Native.Nat.{ℕ}
 use Rattle.rules.specs.Trees.{Op, choice, sequence, parallel, loop}
-use Rattle.rules.specs.Mining.{Episode, Log, graph, shape, cut, partsOf, choiceParts, sequenceParts, parallelParts, loopParts, bodyPart}
+use Rattle.rules.specs.Mining.{Episode, Log, graph, shape, cut, partsOf, loopParts, bodyPart}
 use Rattle.rules.proofs.ListLaws.{Has, flat-has}
 use Rattle.rules.proofs.Occurring.{Below, code-of}
 use Rattle.rules.proofs.Cuts.{Two}
 use Rattle.rules.proofs.Shapes.{Taken, cut-taken, two-length}
 use Rattle.rules.proofs.Nodes.{Sublog, sublog-below}
-use Rattle.papers.specs.Cuts.{graphOf, CutOf, ChoiceCut, SequenceCut, ParallelCut, LoopCut, MaximalCut}
+use Rattle.papers.specs.Cuts.{graphOf, CutOf, ChoiceCut, SequenceCut, ParallelCut, LoopCut, Maximal, MaximalCut}
 use Rattle.papers.proofs.Choice.{choice-cut, choice-maximal}
 use Rattle.papers.proofs.Sequence.{sequence-cut, sequence-maximal}
 use Rattle.papers.proofs.Parallel.{parallel-cut, parallel-maximal}
 use Rattle.papers.proofs.Loop.{loop-cut}
 use Rattle.papers.proofs.LoopMaximal.{loop-maximal}
-
-two-parts : (ps : List (List ℕ)) → Two ps → ps ≢ []
-two-parts ps w e = subst Two e w
 
 -- an episode with a code has a first one
 start-of : (l : Log) (t : Episode) → Has t l → (c : ℕ) → Has c t → (x : ℕ) × graphOf l .start x
@@ -34,23 +31,25 @@ loop-start m l k =
     let t = code-of m l (c .0) (k .parting .inside (c .0) (flat-has (c .0) body (loopParts (graph m l)) (inl refl) (c .1))) in
     start-of l (t .0) (t .1) (c .0) (t .2)
 
-parts-maximal : (m : ℕ) (l : Log) → Below m l → (o : Op) → Taken m l o → MaximalCut (CutOf o (graphOf l)) (partsOf o (graph m l))
-parts-maximal m l s choice k =
-    record { is = choice-cut m l s; nontrivial = two-length (choiceParts (graph m l)) (k .two); maximal = choice-maximal m l s }
-parts-maximal m l s sequence k =
-    record { is = sequence-cut m l s; nontrivial = two-length (sequenceParts (graph m l)) (k .two); maximal = sequence-maximal m l s }
-parts-maximal m l s parallel k =
-    let gs = parallelParts (graph m l) in
-    let some = two-parts gs (k .two) in
-    record { is = parallel-cut m l s some; nontrivial = two-length gs (k .two); maximal = parallel-maximal m l s some }
-parts-maximal m l s loop k =
-    let x = loop-start m l k in
-    record { is = loop-cut m l s (x .0) (x .1); nontrivial = two-length (loopParts (graph m l)) (k .two); maximal = loop-maximal m l s }
+parts-cut : (m : ℕ) (l : Log) → Below m l → (o : Op) → Taken m l o → CutOf o (graphOf l) (partsOf o (graph m l))
+parts-cut m l s choice k = choice-cut m l s
+parts-cut m l s sequence k = sequence-cut m l s
+parts-cut m l s parallel k = parallel-cut m l s (λ e. subst Two e (k .two))
+parts-cut m l s loop k = let x = loop-start m l k in loop-cut m l s (x .0) (x .1)
+
+-- THEOREM: no cut of an operator has more parts than the rules find, also where its parts are not taken
+pub parts-maximal : (m : ℕ) (l : Log) → Below m l → (o : Op) → Maximal (CutOf o (graphOf l)) (partsOf o (graph m l))
+parts-maximal m l s choice = choice-maximal m l s
+parts-maximal m l s sequence = sequence-maximal m l s
+parts-maximal m l s parallel = parallel-maximal m l s
+parts-maximal m l s loop = loop-maximal m l s
 
 -- THEOREM: a cut that is taken is a nontrivial and maximal cut of its operator
 pub taken : (m : ℕ) (l : Log) → Below m l → (o : Op) (ps : List (List ℕ)) → shape m l ≡ cut o ps → MaximalCut (CutOf o (graphOf l)) ps
 taken m l s o ps e =
-    let k = cut-taken m l s o ps e in subst (MaximalCut (CutOf o (graphOf l))) (sym (k .0)) (parts-maximal m l s o (k .1))
+    let k = cut-taken m l s o ps e in
+    subst (MaximalCut (CutOf o (graphOf l))) (sym (k .0))
+    (record { is = parts-cut m l s o (k .1); nontrivial = two-length (partsOf o (graph m l)) (k .1 .two); maximal = parts-maximal m l s o })
 
 module _ (m : ℕ) (l : Log) (s : Below m l) (ps : List (List ℕ)) where
   -- THEOREM: a choice that is taken is a maximal exclusive choice cut

@@ -16,8 +16,8 @@ pub record FollowsGraph : Type 1 where
   pub start : ℕ → Type 0
   pub end : ℕ → Type 0
 
--- G(L) (000, 6.1): the nodes are the activities of L, an edge (a, b) is present "if and only if some trace ⟨.., a, b, ..⟩ exists in L",
--- and the start and end nodes are the activities with which L starts and ends
+-- G(L) (000, 6.1): its nodes are the activities of L, it has the edge (a, b) exactly where L has a trace ⟨.., a, b, ..⟩, and its start and
+-- end nodes are the first and the last activities of traces
 abbrev pub graphOf : Log → FollowsGraph
 graphOf l =
     record {
@@ -27,7 +27,7 @@ graphOf l =
       end = λ a. (u : Episode) × Has (u ++ (a ∷ [])) l;
     }
 
--- a ⇝ b (000, 6.2): "there exists a directed edge chain (path) from a to b in G"
+-- a ⇝ b (000, 6.2): a path, edges of G that lead from a to b
 pub data EdgeChain (G : FollowsGraph) : ℕ → ℕ → Type 0 where
   one : {a b : ℕ} → G .edge a b → EdgeChain G a b
   then : {a b c : ℕ} → G .edge a b → EdgeChain G b c → EdgeChain G a c
@@ -40,18 +40,18 @@ abbrev pub Σ : List (List ℕ) → ℕ → List ℕ
 Σ (p ∷ ps) zero = p
 Σ (p ∷ ps) (suc i) = Σ ps i
 
--- an n-ary cut (000, 6.2): "a partition of the nodes of the graph into disjoint sets Σ1 .. Σn"
+-- a cut (000, 6.2): sets Σ1, .., Σn that share out the nodes: each node is in exactly one of them, and none is empty
 pub record Cut (G : FollowsGraph) (ps : List (List ℕ)) : Type 0 where
   pub of-nodes : (i a : ℕ) → Has a (Σ ps i) → G .node a
   pub all-nodes : (a : ℕ) → G .node a → (i : ℕ) × Has a (Σ ps i)
   pub disjoint : (i j : ℕ) → i ≢ j → (a : ℕ) → Has a (Σ ps i) → Has a (Σ ps j) → ⊥
   pub non-empty : (i : ℕ) → i < length ps → (a : ℕ) × Has a (Σ ps i)
 
--- "A cut c is nontrivial if n > 1"
+-- nontrivial (000, 6.2): n > 1
 abbrev pub Nontrivial : List (List ℕ) → Type 0
 Nontrivial ps = 1 < length ps
 
--- "maximal if there exists no cut of G of which n is bigger", among the cuts of one kind
+-- maximal (000, 6.2), here among the cuts of one kind: none has a bigger n
 abbrev pub Maximal : (List (List ℕ) → Type 0) → List (List ℕ) → Type 0
 Maximal IsCut ps = (qs : List (List ℕ)) → IsCut qs → length qs ≤ length ps
 
@@ -124,3 +124,7 @@ CutOf choice G ps = ChoiceCut G ps
 CutOf sequence G ps = SequenceCut G ps
 CutOf parallel G ps = ParallelCut G ps
 CutOf loop G ps = LoopCut G ps
+
+-- no nontrivial cut by any of the four definitions, one for each operator
+abbrev pub NoCut : FollowsGraph → Type 0
+NoCut G = (o : Op) → None (CutOf o G)

@@ -4,7 +4,7 @@ use mathlib.Core.List.{List, [], _∷_}
 use Prim.Native.Nat.{ℕ}
 use Rattle.rules.specs.Words.{each}
 use Rattle.rules.specs.Trees.{Op, choice, sequence, parallel, loop, Tree, silent, leaf, node, none, more}
-use Rattle.rules.specs.Mining.{Log, mined, mine, build, shape, shapeOf, cutOr, orElse, split, project, loopParts, bodyPart, redoParts, isRedo, parallelParts, sequenceParts, choiceParts, components, join, through, reach, graph, tabled, tableOf, occurring, flowerOf}
+use Rattle.rules.specs.Mining.{Log, mined, mine, build, shape, shapeOf, cutOr, orElse, split, project, loopParts, bodyPart, redoParts, isRedo, parallelParts, madeParts, sequenceParts, choiceParts, components, join, through, reach, graph, tabled, tableOf, occurring, flowerOf}
 use Rattle.rules.specs.Calls.{codeCount}
 
 abbrev a : ℕ
@@ -62,7 +62,7 @@ rows =
 
 -- THEOREM: every row of the bench sheet
 pub rows-right : each (λ r. mined codeCount (r .log)) rows ≡ each (λ r. r .tree) rows
-unfolding mined mine build shape shapeOf cutOr orElse split project loopParts bodyPart redoParts isRedo parallelParts sequenceParts choiceParts components join through reach graph tabled tableOf occurring rows
+unfolding mined mine build shape shapeOf cutOr orElse split project loopParts bodyPart redoParts isRedo parallelParts madeParts sequenceParts choiceParts components join through reach graph tabled tableOf occurring rows
 rows-right = refl
 
 -- one log for each rule, on which leaving it out or turning it round gives another tree
@@ -76,9 +76,9 @@ further =
     ∷ record { log = [] ∷ (a ∷ b ∷ []) ∷ []; tree = flowerOf (a ∷ b ∷ []) }
     -- empty projections of a parallel split
     ∷ record { log = (a ∷ b ∷ []) ∷ (b ∷ a ∷ []) ∷ (a ∷ d ∷ []) ∷ []; tree = two sequence (two parallel (leaf a) (two loop silent (leaf b))) (two loop silent (leaf d)) }
-    -- a parallel part without start or end
+    -- a component with neither beside one with both: one part, and so no parallel cut
     ∷ record { log = (a ∷ b ∷ a ∷ []) ∷ []; tree = two loop (leaf a) (leaf b) }
-    -- one with a start but no end
+    -- one with a start but no end beside one with both: one part, and so no cut
     ∷ record { log = (a ∷ []) ∷ (b ∷ a ∷ b ∷ a ∷ []) ∷ []; tree = flowerOf (a ∷ b ∷ []) }
     -- an edge into c from b, which is no end
     ∷ record { log = (a ∷ c ∷ a ∷ []) ∷ (b ∷ c ∷ b ∷ a ∷ []) ∷ []; tree = flowerOf (a ∷ b ∷ c ∷ []) }
@@ -92,13 +92,33 @@ further =
     ∷ record { log = (a ∷ c ∷ b ∷ d ∷ []) ∷ (b ∷ d ∷ c ∷ a ∷ []) ∷ []; tree = two loop (two choice (leaf a) (two sequence (leaf b) (leaf d))) (leaf c) }
     -- a part that is cut again by the same operator stays a child
     ∷ record { log = (a ∷ c ∷ []) ∷ (c ∷ b ∷ c ∷ a ∷ b ∷ []) ∷ []; tree = two parallel (two parallel (leaf a) (two loop silent (leaf b))) (two loop silent (leaf c)) }
+    -- a component with only starts pairs with one with only ends
+    ∷ record { log = (b ∷ c ∷ b ∷ a ∷ c ∷ []) ∷ (a ∷ b ∷ c ∷ a ∷ []) ∷ []; tree = two parallel (flowerOf (a ∷ [])) (flowerOf (b ∷ c ∷ [])) }
+    -- two pairs that cross: the starts a and b, the ends c and d
+    ∷ record { log = (a ∷ b ∷ a ∷ c ∷ b ∷ c ∷ a ∷ d ∷ b ∷ d ∷ c ∷ d ∷ []) ∷ (b ∷ d ∷ a ∷ c ∷ []) ∷ []; tree = two parallel (flowerOf (a ∷ c ∷ [])) (flowerOf (b ∷ d ∷ [])) }
+    -- a component with neither, which joins the part with the smallest code and not the last one
+    ∷ record { log = (a ∷ c ∷ b ∷ c ∷ a ∷ []) ∷ (b ∷ a ∷ b ∷ []) ∷ []; tree = two parallel (two loop (leaf a) (flowerOf (c ∷ []))) (flowerOf (b ∷ [])) }
+    -- one that moves its part's smallest code
+    ∷ record { log = (b ∷ a ∷ c ∷ a ∷ b ∷ []) ∷ (c ∷ b ∷ c ∷ []) ∷ []; tree = two parallel (two loop (leaf b) (flowerOf (a ∷ []))) (flowerOf (c ∷ [])) }
+    -- more with only starts than with only ends: b is left without a partner
+    ∷ record {
+      log = (d ∷ a ∷ b ∷ a ∷ c ∷ a ∷ d ∷ b ∷ c ∷ b ∷ d ∷ c ∷ d ∷ []) ∷ (a ∷ c ∷ []) ∷ (b ∷ c ∷ []) ∷ [];
+      tree = two parallel (flowerOf (a ∷ b ∷ c ∷ [])) (flowerOf (d ∷ []));
+    }
+    -- more with only ends than with only starts
+    ∷ record {
+      log = (d ∷ c ∷ d ∷ b ∷ c ∷ b ∷ d ∷ a ∷ c ∷ a ∷ b ∷ a ∷ d ∷ []) ∷ (c ∷ a ∷ []) ∷ (c ∷ b ∷ []) ∷ [];
+      tree = two parallel (flowerOf (a ∷ b ∷ c ∷ [])) (flowerOf (d ∷ []));
+    }
+    -- a pair alone is one part, and so no cut
+    ∷ record { log = (a ∷ b ∷ a ∷ b ∷ []) ∷ []; tree = flowerOf (a ∷ b ∷ []) }
     -- J2
     ∷ record { log = (a ∷ b ∷ []) ∷ (a ∷ b ∷ c ∷ a ∷ b ∷ []) ∷ (a ∷ b ∷ c ∷ c ∷ a ∷ b ∷ []) ∷ []; tree = two loop (two sequence (leaf a) (leaf b)) (two loop silent (leaf c)) }
     ∷ []
 
 -- THEOREM: every one of these
 pub further-right : each (λ r. mined codeCount (r .log)) further ≡ each (λ r. r .tree) further
-unfolding mined mine build shape shapeOf cutOr orElse split project loopParts bodyPart redoParts isRedo parallelParts sequenceParts choiceParts components join through reach graph tabled tableOf occurring further
+unfolding mined mine build shape shapeOf cutOr orElse split project loopParts bodyPart redoParts isRedo parallelParts madeParts sequenceParts choiceParts components join through reach graph tabled tableOf occurring further
 further-right = refl
 
 -- the running example of section 6.3
@@ -111,7 +131,7 @@ running =
 
 -- THEOREM: it gives the tree that the paper arrives at
 pub running-right : mined codeCount (running .log) ≡ running .tree
-unfolding mined mine build shape shapeOf cutOr orElse split project loopParts bodyPart redoParts isRedo parallelParts sequenceParts choiceParts components join through reach graph tabled tableOf occurring running
+unfolding mined mine build shape shapeOf cutOr orElse split project loopParts bodyPart redoParts isRedo parallelParts madeParts sequenceParts choiceParts components join through reach graph tabled tableOf occurring running
 running-right = refl
 
 -- the log of section 6.5
@@ -146,5 +166,5 @@ illustrated =
 
 -- THEOREM: it gives the paper's tree, with g before h, since a choice's parts stand by their smallest code
 pub illustrated-right : mined codeCount (illustrated .log) ≡ illustrated .tree
-unfolding mined mine build shape shapeOf cutOr orElse split project loopParts bodyPart redoParts isRedo parallelParts sequenceParts choiceParts components join through reach graph tabled tableOf occurring illustrated
+unfolding mined mine build shape shapeOf cutOr orElse split project loopParts bodyPart redoParts isRedo parallelParts madeParts sequenceParts choiceParts components join through reach graph tabled tableOf occurring illustrated
 illustrated-right = refl

@@ -1,12 +1,12 @@
--- The four cuts of a log: their parts share out the codes that occur.
+-- Cuts of a log by choice, sequence and loop: their parts share out the codes that occur.
 use mathlib.Core.Path.{_≡_, refl, sym, ap, subst}
 use mathlib.Core.Logic.{_⊎_, inl, inr, ⊎-elim}
 use mathlib.Core.List.{List, [], _∷_}
-use mathlib.Core.Bool.{Bool, true, false, not, _&&_}
+use mathlib.Core.Bool.{true, false, not}
 use Prim.Native.Nat.{ℕ}
 use borrow.Author.Tests.{eq-eqb, not-true}
 use Rattle.rules.specs.Words.{any, all, keep, flat, mem}
-use Rattle.rules.specs.Mining.{Episode, Log, Rel, components, occurring, graph, reach, either, together, notBoth, onlyIf, choiceParts, sequenceParts, parallelParts, loopParts, bodyPart, redoParts, isRedo, onBorder, startsWith, endsWith, lastOf, follows}
+use Rattle.rules.specs.Mining.{Episode, Log, Rel, components, occurring, graph, reach, either, together, choiceParts, sequenceParts, loopParts, bodyPart, redoParts, isRedo, onBorder, startsWith, endsWith, lastOf, follows}
 use Rattle.rules.proofs.BoolLaws.{bool-cases, not-both, or-left, or-right, or-cases}
 use Rattle.rules.proofs.ListLaws.{Has, any-has, has-any, has-all, has-keep, keep-has, has-append-left, has-append-right, has-append-cases, flat-has, has-flat, mem-has, has-mem}
 use Rattle.rules.proofs.Distinct.{Distinct, Apart, apart-unique, distinct-keep, apart-keep}
@@ -42,10 +42,6 @@ Two [] = ⊥
 Two (p ∷ []) = ⊥
 Two (p ∷ q ∷ ps) = Unit {0}
 
-only-if : (F : List (List ℕ) → Type 0) (b : Bool) (ps : List (List ℕ)) → Two (onlyIf b ps) → F ps → F (onlyIf b ps)
-only-if F true ps two h = h
-only-if F false ps two h = absurd two
-
 pub either-sym : (e : Rel) → Symmetric (either e)
 either-sym e a b h = ⊎-elim (or-right (e b a) (e a b)) (or-left (e b a) (e a b)) (or-cases (e a b) (e b a) h)
 
@@ -69,15 +65,6 @@ module _ (m : ℕ) (l : Log) where
         some = λ p i. k .some p (ordered-has r gs p i);
         picked = λ p i. k .picked p (ordered-has r gs p i);
       }
-
-  -- THEOREM: the parts of a parallel cut, where there is one, share out the codes
-  pub parallel-parting : Two (parallelParts (graph m l)) → Parting (occurring m l) (parallelParts (graph m l))
-  unfolding parallelParts graph
-  parallel-parting two =
-      let g = graph m l in
-      let ps = components (notBoth (g .edge)) (occurring m l) in
-      only-if (Parting (occurring m l)) (all (λ p. any (g .start) p && any (g .end) p) ps) ps two
-      (components-parting (notBoth (g .edge)) (occurring m l) (occurring-distinct m l))
 
   -- ---- the parts of a loop
 

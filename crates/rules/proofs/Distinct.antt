@@ -11,7 +11,7 @@ use borrow.Author.Tests.{eqb-true, eq-eqb, not-true}
 use Rattle.rules.specs.Words.{push, keep, flat, from}
 pub use Rattle.rules.specs.WellFormed.{Distinct}
 use Rattle.rules.proofs.BoolLaws.{bool-cases, not-both}
-use Rattle.rules.proofs.ListLaws.{Has, has-keep, has-append-cases, flat-has, has-flat, from-has}
+use Rattle.rules.proofs.ListLaws.{Has, has-keep, has-append-left, has-append-right, has-append-cases, flat-has, has-flat, flat-append, from-has}
 
 distinct-push : (b : Bool) (x : ℕ) (u : List ℕ) → (Has x u → ⊥) → Distinct u → Distinct (push b x u)
 distinct-push true x u h d = (h, d)
@@ -86,15 +86,26 @@ pub apart-keep : (p : List ℕ → Bool) (gs : List (List ℕ)) → Apart gs →
 apart-keep p [] a = tt
 apart-keep p (g ∷ gs) a = apart-push (p g) g (keep p gs) (λ c m n. a .0 c m (flat-keep p gs c n)) (apart-keep p gs (a .1))
 
--- those that pass and those that do not have no common code
-pub kept-apart : (p : List ℕ → Bool) (gs : List (List ℕ)) → Apart gs → (c : ℕ) → Has c (flat (keep p gs)) → Has c (flat (keep (λ g. not (p g)) gs)) → ⊥
-kept-apart p gs a c m n =
+-- those that pass a test and those that pass one that excludes it have no common code
+pub keeps-apart : (p q : List ℕ → Bool) → ((g : List ℕ) → p g ≡ true → q g ≡ true → ⊥) → (gs : List (List ℕ)) → Apart gs → (c : ℕ) → Has c (flat (keep p gs)) → Has c (flat (keep q gs)) → ⊥
+keeps-apart p q excludes gs a c m n =
     let k = has-flat c (keep p gs) m in
-    let q = has-flat c (keep (λ g. not (p g)) gs) n in
+    let h = has-flat c (keep q gs) n in
     let i = has-keep p (k .0) gs (k .1) in
-    let j = has-keep (λ g. not (p g)) (q .0) gs (q .1) in
-    let e : k .0 ≡ q .0 = apart-unique gs a (k .0) (q .0) c (i .0) (j .0) (k .2) (q .2) in
-    not-both (p (q .0)) (rw e at (i .1)) (not-true (p (q .0)) (j .1))
+    let j = has-keep q (h .0) gs (h .1) in
+    let e : k .0 ≡ h .0 = apart-unique gs a (k .0) (h .0) c (i .0) (j .0) (k .2) (h .2) in
+    excludes (h .0) (rw e at (i .1)) (j .1)
+
+-- those that pass and those that do not
+pub kept-apart : (p : List ℕ → Bool) (gs : List (List ℕ)) → Apart gs → (c : ℕ) → Has c (flat (keep p gs)) → Has c (flat (keep (λ g. not (p g)) gs)) → ⊥
+kept-apart p = keeps-apart p (λ g. not (p g)) (λ g t n. not-both (p g) t (not-true (p g) n))
+
+pub apart-append : (ps qs : List (List ℕ)) → Apart ps → Apart qs → ((c : ℕ) → Has c (flat ps) → Has c (flat qs) → ⊥) → Apart (ps ++ qs)
+apart-append [] qs a b n = b
+apart-append (p ∷ ps) qs a b n = (
+  (λ c i j. ⊎-elim (λ k. a .0 c i k) (λ k. n c (has-append-left c p (flat ps) i) k) (has-append-cases c (flat ps) (flat qs) (subst (Has c) (flat-append ps qs) j))),
+  apart-append ps qs (a .1) b (λ c i. n c (has-append-right c p (flat ps) i)),
+)
 
 pub distinct-flat : (ps : List (List ℕ)) → Apart ps → ((p : List ℕ) → Has p ps → Distinct p) → Distinct (flat ps)
 distinct-flat [] a h = tt

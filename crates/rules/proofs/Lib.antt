@@ -26,6 +26,7 @@ pub mod Unions
 pub mod FilterLaws
 pub mod SmallestFirst
 pub mod Cuts
+pub mod ParallelParts
 pub mod Splits
 pub mod Shapes
 pub mod Recursion

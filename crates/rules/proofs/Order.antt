@@ -18,7 +18,7 @@ use Rattle.rules.proofs.Joining.{InOrder, Transitive}
 
 -- ---- putting parts in order
 
-has-place : (r : Rel) (p : List ℕ) (qs : List (List ℕ)) (y : List ℕ) → Has y (place r p qs) → (y ≡ p) ⊎ Has y qs
+pub has-place : (r : Rel) (p : List ℕ) (qs : List (List ℕ)) (y : List ℕ) → Has y (place r p qs) → (y ≡ p) ⊎ Has y qs
 has-place r p [] y m = m
 has-place r p (q ∷ qs) y m = by (r (headOf p) (headOf q)) (has-place r p qs y) m
   where

@@ -13,7 +13,8 @@ use Rattle.rules.proofs.BoolLaws.{not-both, clash}
 use Rattle.rules.proofs.ListLaws.{Has, all-has, has-all, has-any, false-any, not-all, has-length}
 use Rattle.rules.proofs.Distinct.{Distinct, distinct-flat, distinct-le}
 use Rattle.rules.proofs.Occurring.{Below, code-in, code-of, occurring-distinct}
-use Rattle.rules.proofs.Cuts.{Parting, parting-distinct, Two, choice-parting, sequence-parting, parallel-parting, loop-parting, start-body}
+use Rattle.rules.proofs.Cuts.{Parting, parting-distinct, Two, choice-parting, sequence-parting, loop-parting, start-body}
+use Rattle.rules.proofs.ParallelParts.{parallel-parting}
 use Rattle.rules.proofs.Splits.{split-occurring}
 
 -- a cut of fewer than two parts

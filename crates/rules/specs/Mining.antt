@@ -1,8 +1,8 @@
 -- From log to tree, in the page's words and order. m is the number of codes: the codes are 0 to m - 1.
-use mathlib.Core.List.{List, [], _∷_}
+use mathlib.Core.List.{List, [], _∷_, _++_}
 use mathlib.Core.Bool.{Bool, true, false, not, _&&_, _||_, Bool·beq}
 use Prim.Native.Nat.{ℕ, zero, suc}
-use lib.Dec.{eqb}
+use lib.Dec.{eqb, ltb}
 use Rattle.rules.specs.Words.{any, all, keep, each, flat, mem, implies, from}
 use Rattle.rules.specs.Trees.{Op, choice, sequence, parallel, loop, Tree, silent, leaf, node, Forest, none, more}
 
@@ -129,15 +129,39 @@ sequenceParts g = let r : Rel = reach g in ordered r (components (together r) (g
 abbrev pub notBoth : Rel → Rel
 notBoth e a b = not (e a b && e b a)
 
-abbrev pub onlyIf : Bool → List (List ℕ) → List (List ℕ)
-onlyIf true ps = ps
-onlyIf false ps = []
+-- a start in the part; an end in it
+abbrev pub hasStart : Graph → List ℕ → Bool
+hasStart g p = any (g .start) p
 
--- parallel: the components of two codes joined unless both edges exist; none of it if any lacks a start or an end
+abbrev pub hasEnd : Graph → List ℕ → Bool
+hasEnd g p = any (g .end) p
+
+-- two parts become one of the codes cs
+abbrev pub asOne : List ℕ → List ℕ → List ℕ → List ℕ
+asOne cs p q = keep (λ c. mem c p || mem c q) cs
+
+-- the i-th of some pairs with the i-th of others
+abbrev pub paired : List ℕ → List (List ℕ) → List (List ℕ) → List (List ℕ)
+paired cs [] qs = []
+paired cs (p ∷ ps) [] = []
+paired cs (p ∷ ps) (q ∷ qs) = asOne cs p q ∷ paired cs ps qs
+
+-- made of components: one with both a start and an end is a part of its own; the i-th with only starts pairs with the
+-- i-th with only ends; by their smallest codes
+unfoldable pub madeParts : Graph → List (List ℕ) → List (List ℕ)
+madeParts g ps =
+    ordered ltb
+    (keep (λ p. hasStart g p && hasEnd g p) ps
+    ++ paired (g .codes) (keep (λ p. hasStart g p && not (hasEnd g p)) ps) (keep (λ p. not (hasStart g p) && hasEnd g p) ps))
+
+-- all codes that remain join the part with the smallest code, the first
+abbrev pub withRest : List ℕ → List (List ℕ) → List (List ℕ)
+withRest cs [] = []
+withRest cs (p ∷ ps) = asOne cs p (keep (λ c. not (any (mem c) (p ∷ ps))) cs) ∷ ps
+
+-- parallel: made of the components of two codes joined unless both edges exist
 unfoldable pub parallelParts : Graph → List (List ℕ)
-parallelParts g =
-    let ps : List (List ℕ) = components (notBoth (g .edge)) (g .codes) in
-    onlyIf (all (λ p. any (g .start) p && any (g .end) p) ps) ps
+parallelParts g = withRest (g .codes) (madeParts g (components (notBoth (g .edge)) (g .codes)))
 
 -- a start or an end
 abbrev pub onBorder : Graph → ℕ → Bool

@@ -102,10 +102,41 @@ fn parallel(graph: &Graph, back: &Table, codes: Codes) -> Cut {
     let mut cut = Cut::new(PARALLEL);
     let not_both = std::array::from_fn(|a| !(graph.rows[a] & back[a]));
     push_components(&mut cut, &not_both, codes);
-    if cut.parts().iter().any(|part| part & graph.starts == 0 || part & graph.ends == 0) {
-        cut.count = 0;
-    }
+    pair_components(&mut cut, graph);
+    join_the_rest(&mut cut, graph);
     cut
+}
+
+/// Joins the i-th component with only starts and the i-th with only ends, where the first of the two stands.
+fn pair_components(cut: &mut Cut, graph: &Graph) {
+    // Sets of the components' numbers, one bit each.
+    let (mut starting, mut ending) = (0, 0);
+    for (number, part) in cut.parts().iter().enumerate() {
+        let (starts, ends) = (part & graph.starts != 0, part & graph.ends != 0);
+        starting |= ((starts && !ends) as u32) << number;
+        ending |= ((ends && !starts) as u32) << number;
+    }
+    for (one, other) in each(starting).zip(each(ending)) {
+        let (first, second) = (one.min(other) as usize, one.max(other) as usize);
+        cut.parts[first] |= cut.parts[second];
+        cut.parts[second] = 0;
+    }
+}
+
+/// Keeps the parts with a start and an end; the first of them takes up all others.
+fn join_the_rest(cut: &mut Cut, graph: &Graph) {
+    let (mut rest, mut kept) = (0, 0);
+    for number in 0..cut.count {
+        let part = cut.parts[number];
+        if part & graph.starts != 0 && part & graph.ends != 0 {
+            cut.parts[kept] = part;
+            kept += 1;
+        } else {
+            rest |= part;
+        }
+    }
+    cut.parts[0] |= rest;
+    cut.count = kept;
 }
 
 fn redo(graph: &Graph, back: &Table, codes: Codes) -> Cut {

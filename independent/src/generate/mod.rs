@@ -1,5 +1,6 @@
 //! Inputs made by numbers that only look random: trees, episodes, logs, and damage done to them.
 
+pub mod components;
 pub mod damage;
 pub mod largest;
 pub mod logs;

@@ -39,8 +39,8 @@ unfit-codes-requires c κs = search needs
 parts-without-requires : tie.Need-parts-without-requires
 parts-without-requires c κs = search needs
 
-body-of-requires : tie.Need-body-of-requires
-body-of-requires c κs = search needs
+remaining-requires : tie.Need-remaining-requires
+remaining-requires c κs = search needs
 
 inserted-requires : tie.Need-inserted-requires
 inserted-requires c κs = search needs
@@ -66,7 +66,7 @@ returns c =
     let many = number (redos .result) (redoParts (meant g (a .keep .bits))) size (omega (arith, redos .ensures .0, parts .ensures .few))
     (ap (each (listed codeCount)) (redos .ensures .1)
     ∙ redos-are codeCount (a .keep .bits) (edgeOf (g .rows)) (g .starts .bits) (g .ends .bits) border rest on-border (c .before .before .before .before .before .before .before .before .minus .ensures) (unfit .result) (search needs) on-unfit (setsOf (parts .result)) found) in
-    let body = c .before .body-of in (
+    let body = c .before .remaining in (
       omega (arith, c .inserted .ensures .0),
       roomed-on (meant g (a .keep .bits)) _ (omega (arith, many))
           (loop-is codeCount (a .keep .bits) (edgeOf (g .rows)) (g .starts .bits) (g .ends .bits) border rest on-border (c .before .before .before .before .before .before .before .before .minus .ensures)
@@ -111,7 +111,7 @@ loop-parts-spec =
     components-requires
     unfit-codes-requires
     parts-without-requires
-    body-of-requires
+    remaining-requires
     inserted-requires
     returns
     new-requires

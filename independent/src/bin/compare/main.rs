@@ -6,6 +6,7 @@
 mod adding;
 mod judging;
 mod mining;
+mod parallel;
 mod reading;
 mod tally;
 mod trees;
@@ -27,7 +28,7 @@ fn main() -> ExitCode {
 
 type Suite = fn(&mut Tally);
 
-const SUITES: [(&str, Suite); 18] = [
+const SUITES: [(&str, Suite); 20] = [
     ("reading, every place of a block", reading::every_place),
     ("reading, lengths and far places", reading::lengths),
     ("adding, every length of episode", adding::every_length),
@@ -36,6 +37,8 @@ const SUITES: [(&str, Suite); 18] = [
     ("mining, every log of up to three short episodes", mining::small_logs),
     ("mining, logs of trees and of any codes", mining::some_logs),
     ("mining, logs of trees with a few events changed", mining::near_trees),
+    ("mining, every kind of up to five parallel components", parallel::every_kind),
+    ("mining, many parallel components", parallel::many_components),
     ("mining, full logs", mining::full_logs),
     ("mining, the measured logs", mining::measured_logs),
     ("mining, logs joined in either order and to themselves", mining::joined_logs),

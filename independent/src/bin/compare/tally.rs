@@ -24,8 +24,10 @@ pub struct Tally {
     met: BTreeMap<(&'static str, u8), usize>,
     /// How often an episode did not fit and did.
     verdicts: [usize; 2],
-    /// How often each law between several calls held and did not.
+    /// How often each law of the outcomes held and did not.
     laws: BTreeMap<&'static str, [usize; 2]>,
+    /// How often each form came up of the parallel cuts that logs were built for.
+    forms: BTreeMap<&'static str, usize>,
 }
 
 /// The numbers that each call gives, 0 for accepting; every one must be met.
@@ -35,6 +37,21 @@ const NUMBERS: [(&str, &[u8]); 5] = [
     ("mining", &[0, 1, 2, 3, 4, 5, 6, 7]),
     ("checking", &[0, 8, 9]),
     ("judging", &[0, 3, 8, 9, 10, 11]),
+];
+
+/// The forms of the parallel cuts that logs were built for; every one must be met.
+const FORMS: [&str; 11] = [
+    "no parallel cut: one part alone",
+    "every component a part",
+    "a part of several components",
+    "two components paired",
+    "a component without a partner",
+    "a component with neither",
+    "the smallest code in one without a partner",
+    "the smallest code in one with neither",
+    "joined below a sequence",
+    "joined below a choice",
+    "joined below a loop",
 ];
 
 fn side(gateway: Box<dyn Gateway>, only_nothing: bool) -> Side {
@@ -64,7 +81,8 @@ impl Tally {
         let mut sides = vec![side(Box::new(Fast), false)];
         sides.extend(library_sides());
         sides.extend(bridge_sides());
-        Tally { cases: 0, sides, met: BTreeMap::new(), verdicts: [0; 2], laws: BTreeMap::new() }
+        let (met, laws, forms) = (BTreeMap::new(), BTreeMap::new(), BTreeMap::new());
+        Tally { cases: 0, sides, met, verdicts: [0; 2], laws, forms }
     }
 
     /// Compares every side with the plain one and answers the plain one's outcome.
@@ -97,9 +115,13 @@ impl Tally {
         expected
     }
 
-    /// A law between several calls, of the plain side's outcomes, which every other side shares or fails.
+    /// A law of the plain side's outcomes, which every other side shares or fails.
     pub fn holds(&mut self, law: &'static str, held: bool) {
         self.laws.entry(law).or_default()[!held as usize] += 1;
+    }
+
+    pub fn meets(&mut self, form: &'static str) {
+        *self.forms.entry(form).or_default() += 1;
     }
 
     /// Prints the counts of the calls that were asked for, each of whose numbers must have been met.
@@ -115,6 +137,9 @@ impl Tally {
             println!("verdicts: {} fit, {} misfit", self.verdicts[1], self.verdicts[0]);
             unmet += self.verdicts.iter().filter(|&&count| count == 0).count();
         }
+        if "mining".starts_with(wanted) {
+            unmet += self.report_forms();
+        }
         let mut broken = 0;
         for (law, [held, not]) in &self.laws {
             println!("{law}: held {held} times, not {not}");
@@ -127,6 +152,15 @@ impl Tally {
         let failed: usize = self.sides.iter().map(|side| side.failed).sum::<usize>() + unmet + broken;
         println!("{passed} passed, {failed} failed");
         ExitCode::from((failed > 0) as u8)
+    }
+
+    /// Prints how often each form came up and answers how many did not.
+    fn report_forms(&self) -> usize {
+        let counts = FORMS.map(|form| (form, self.forms.get(form).copied().unwrap_or(0)));
+        for (form, count) in counts {
+            println!("built components, {form}: {count} logs");
+        }
+        counts.iter().filter(|(_, count)| *count == 0).count()
     }
 }
 

@@ -1,6 +1,8 @@
 //! One call on one side, with guards around everything that is lent.
 
+use independent::block::BLOCK;
 use independent::calls::Gateway;
+use independent::tree::{well_formed, Tree};
 use std::fmt;
 
 pub enum Case {
@@ -71,6 +73,11 @@ impl Outcome {
     /// The same answer, and the same in everything that was lent to be written, whatever was read.
     pub fn leaves_as(&self, other: &Outcome) -> bool {
         self.answer == other.answer && self.bytes[1..] == other.bytes[1..] && self.numbers == other.numbers
+    }
+
+    /// The tree that mining wrote.
+    pub fn tree(&self) -> Option<Tree> {
+        well_formed(self.bytes.get(1)?.get(GUARD..GUARD + BLOCK)?)
     }
 }
 

@@ -4,27 +4,27 @@ use native.Mathlib.Nat.{lt-of-le-of-lt}
 use mathlib.Core.Path.{refl}
 use lib.Bits.{and-le-l}
 use Rattle.rules.specs.Calls.{codeCount}
 use Rattle.cut_parts.specs.Sets.{setsOf}
 use Rattle.graph_rows.proofs.TableLaws.{owned-field}
-use Rattle.cut_loop.proofs.PartLaws.{Left, left-more, left-end}
+use Rattle.cut_parts.proofs.RemainingLaws.{Left, left-more, left-end}
 use borrow.Author.Needs.{needs}
-use Rattle.cut_loop.proofs.body_of.Statement.{statement}
-use Rattle.cut_loop.proofs.body_of.Tie as tie
+use Rattle.cut_parts.proofs.remaining.Statement.{statement}
+use Rattle.cut_parts.proofs.remaining.Tie as tie
 
 abbrev Inv-loop : tie.InvT-loop
-Inv-loop keep n sets body₀ i₀ body i = (i ≤ n) × (body < 2 ^ codeCount) × Left codeCount keep sets n i body
+Inv-loop codes n sets left₀ i₀ left i = (i ≤ n) × (left < 2 ^ codeCount) × Left codeCount codes sets n i left
 
 abbrev μ-loop : tie.MeasureT-loop
-μ-loop keep n sets body₀ i₀ body i = n - i
+μ-loop codes n sets left₀ i₀ left i = n - i
 
 loop-holds : tie.Need-loop-holds Inv-loop μ-loop
 loop-holds c = (omega arith, search needs, λ x. refl)
 
-mul-body : tie.Need-mul-body Inv-loop μ-loop
-mul-body c = search needs
+mul-left : tie.Need-mul-left Inv-loop μ-loop
+mul-left c = search needs
 
-array-read-body : tie.Need-array-read-body Inv-loop μ-loop
-array-read-body c = search needs
+array-read-left : tie.Need-array-read-left Inv-loop μ-loop
+array-read-left c = search needs
 
 add-i : tie.Need-add-i Inv-loop μ-loop
 add-i c = search needs
@@ -39,8 +39,8 @@ loop-again c =
     let l = c .before .loop in
     let t = owned-field (s .sets) _ (c .before .before .before .good .0 .1 .1 .1 .0) in (
       omega arith,
-      lt-of-le-of-lt (and-le-l (l .body) _) (l .inv .1),
-      left-more codeCount (a .keep) (s .sets) (s .n) (l .i) (l .body) (omega arith) (omega (arith, t .size)) (l .inv .1) (t .fits (l .i)) (l .inv .2),
+      lt-of-le-of-lt (and-le-l (l .left) _) (l .inv .1),
+      left-more codeCount (a .codes) (s .sets) (s .n) (l .i) (l .left) (omega arith) (omega (arith, t .size)) (l .inv .1) (t .fits (l .i)) (l .inv .2),
     )
 
 returns : tie.Need-returns Inv-loop μ-loop
@@ -49,17 +49,17 @@ returns c =
     let a = c .before .before .before .args in
     let s = a .parts in
     let l = c .before .loop in
-    left-end codeCount (a .keep) (s .sets) (s .n) (l .i) (l .body) (omega arith) (l .inv .2)
+    left-end codeCount (a .codes) (s .sets) (s .n) (l .i) (l .left) (omega arith) (l .inv .2)
 
-pub body-of-spec : {M : Type 1} → statement M
-body-of-spec =
+pub remaining-spec : {M : Type 1} → statement M
+remaining-spec =
     tie.close
     (tie.spec
     Inv-loop
     μ-loop
     loop-holds
-    mul-body
-    array-read-body
+    mul-left
+    array-read-left
     add-i
     loop-less
     loop-again
