@@ -2,27 +2,93 @@
 
 use independent::answer::refuse;
 use independent::calls::{check, Gateway};
-use independent::fast::Fast;
-use independent::generate::largest::{Task, BROKEN, SHAPES, WORST};
-use independent::log::episodes_of;
-use std::collections::BTreeSet;
+use independent::fast::{number_of, Fast, SLOTS};
+use independent::generate::largest::{task, Task, BROKEN, SHAPES, WORST};
+use independent::log::{episodes_of, Episode};
+use std::collections::{BTreeMap, BTreeSet};
 
-fn mined(log: &[u8]) -> u64 {
-    Fast.mine(log, &mut [0; 512], &mut [0; 16_384])
+/// Of each mined log: its records, its distinct episodes, its codes, and the nodes of its tree.
+const LOGS: [(&str, [usize; 4]); 18] = [
+    ("mine-balanced", [731, 654, 32, 127]),
+    ("mine-balanced-parallel", [1_352, 1_314, 32, 127]),
+    ("mine-sequence-loop-comb", [250, 231, 32, 127]),
+    ("mine-choice-sequence-comb", [461, 420, 32, 125]),
+    ("mine-flower", [287, 285, 32, 34]),
+    ("mine-flower-of-pairs", [3_253, 494, 32, 34]),
+    ("mine-sequence", [240, 1, 32, 33]),
+    ("mine-skipped-steps", [274, 264, 32, 97]),
+    ("mine-parallel", [240, 240, 32, 33]),
+    ("mine-few-long-episodes", [195, 195, 32, 49]),
+    ("mine-one-event-episodes", [4_048, 32, 32, 33]),
+    ("mine-forty-distinct", [196, 40, 32, 121]),
+    ("mine-eight-distinct", [194, 8, 32, 121]),
+    ("mine-all-distinct", [187, 187, 32, 121]),
+    ("mine-empty-records", [4_080, 1, 0, 1]),
+    ("mine-one-event-records", [4_048, 4, 4, 5]),
+    ("mine-many-short", [2_300, 2_300, 32, 34]),
+    ("mine-crowded", [2_016, 2_016, 32, 34]),
+];
+
+fn log_of(name: &str) -> Vec<u8> {
+    match task(name) {
+        Some(Task::Mine { log }) => log,
+        _ => panic!("{name} is mined"),
+    }
 }
 
 #[test]
-fn logs_are_full_and_trees_are_large() {
+fn logs_have_what_they_are_said_to_have() {
+    let mined = SHAPES.iter().filter(|(name, _)| name.starts_with("mine-")).map(|(name, _)| *name);
+    assert_eq!(mined.collect::<Vec<_>>(), LOGS.map(|(name, _)| name));
+    for (name, facts) in LOGS {
+        let log = log_of(name);
+        let episodes = episodes_of(&log).expect("a sound log");
+        let distinct: BTreeSet<&Episode> = episodes.iter().collect();
+        let codes: BTreeSet<&u8> = episodes.iter().flatten().collect();
+        let nodes = Fast.mine(&log, &mut [0; 512], &mut [0; 16_384]) as usize;
+        assert_eq!([episodes.len(), distinct.len(), codes.len(), nodes], facts, "{name}");
+    }
+}
+
+/// No block has room for the longest episode, most for none at all.
+#[test]
+fn logs_are_full() {
+    for (name, _) in LOGS {
+        let log = log_of(name);
+        assert_eq!(log.len(), 8_192, "{name}");
+        let full = |block: &[u8]| block[0] == 255 || block[450..508].iter().any(|&byte| byte != 0);
+        assert!(log.chunks(512).all(full), "{name}");
+    }
+}
+
+#[test]
+fn repeated_episodes_are_long_and_spread_over_the_blocks() {
+    for name in ["mine-forty-distinct", "mine-eight-distinct", "mine-all-distinct"] {
+        let mut blocks_with: BTreeMap<Episode, BTreeSet<usize>> = BTreeMap::new();
+        for (number, block) in log_of(name).chunks(512).enumerate() {
+            for episode in episodes_of(block).expect("a sound block") {
+                blocks_with.entry(episode).or_default().insert(number);
+            }
+        }
+        assert!(blocks_with.keys().all(|episode| (20..=63).contains(&episode.len())), "{name}");
+        let spread = blocks_with.values().map(BTreeSet::len).min().expect("an episode");
+        assert!(spread >= if name == "mine-all-distinct" { 1 } else { 3 }, "{name}: {spread}");
+    }
+}
+
+/// All have one length, and 16 of them or more want each of the first slots.
+#[test]
+fn a_crowded_log_has_many_episodes_for_few_slots() {
+    let episodes = episodes_of(&log_of("mine-crowded")).expect("a sound log");
+    assert!(episodes.iter().all(|episode| episode.len() == 3));
+    assert!(episodes.iter().all(|episode| number_of(episode) as usize % SLOTS < 2_016 / 16));
+}
+
+#[test]
+fn judged_trees_are_large() {
     for (name, make) in SHAPES.into_iter().chain(WORST) {
-        match make() {
-            Task::Mine { log } => {
-                let codes: BTreeSet<u8> = episodes_of(&log).expect("a sound log").concat().into_iter().collect();
-                assert_eq!((log.len(), codes.len()), (8_192, 32), "{name}");
-                assert!(log.chunks(512).all(|block| block[450..508].iter().any(|&byte| byte != 0)), "{name}");
-            }
-            Task::Judge { block, episode } => {
-                assert_eq!((check(&block), episode.len()), (Ok(127), 63), "{name}");
-            }
+        if let Task::Judge { block, episode } = make() {
+            assert_eq!((check(&block), episode.len()), (Ok(127), 63), "{name}");
         }
     }
 }
@@ -32,21 +98,5 @@ fn broken_blocks_are_refused() {
     for (name, make) in BROKEN {
         let Task::Judge { block, .. } = make() else { panic!("{name} is judged") };
         assert_eq!(check(&block), refuse(9, 0), "{name}");
-    }
-}
-
-#[test]
-fn the_largest_trees_are_mined() {
-    let nodes = [
-        ("mine-balanced", 127),
-        ("mine-balanced-parallel", 127),
-        ("mine-sequence-loop-comb", 127),
-        ("mine-flower", 34),
-        ("mine-one-event-episodes", 33),
-    ];
-    for (wanted, count) in nodes {
-        let (_, make) = SHAPES.iter().find(|(name, _)| *name == wanted).expect("a shape");
-        let Task::Mine { log } = make() else { panic!("{wanted} is mined") };
-        assert_eq!(mined(&log), count, "{wanted}");
     }
 }

@@ -47,22 +47,47 @@ impl CodeSet {
         CodeSet::EMPTY.with(c)
     }
 
+    // Is a code in the set? Of what is known to be a code nothing is asked but its bit. A code is its own remainder: so the compiler keeps this apart from `has_first`.
+    pub fn has_code(self, c: u8) -> bool
+        requires { ⌜ c < codeCount ⌝ }
+        ensures { λ r. ⌜ r ≡ has (self .bits) c ⌝ }
+    {
+        (self.bits >> (c % NO_CODE)) % 2 == 1
+    }
+
+    // The same, asked first of every code in a loop: the bit by which other sets are asked is then made only where this one has the code.
+    pub fn has_first(self, c: u8) -> bool
+        requires { ⌜ c < codeCount ⌝ }
+        ensures { λ r. ⌜ r ≡ has (self .bits) c ⌝ }
+    {
+        (self.bits >> c) % 2 == 1
+    }
+
+    // The same of any byte: what is above the largest code is in no set.
     pub fn has(self, c: u8) -> bool
         ensures { λ r. ⌜ r ≡ has (self .bits) c ⌝ }
     {
         if c < NO_CODE {
-            (self.bits >> c) % 2 == 1
-        } else {
-            false
+            return self.has_code(c);
         }
+        false
     }
 
-    // What is above the largest code changes nothing.
-    pub fn with(mut self, c: u8) -> Self
+    // The set with a code besides its own.
+    pub fn with_code(mut self, c: u8) -> Self
+        requires { ⌜ c < codeCount ⌝ }
+        ensures { λ r. ⌜ ((i : ℕ) → has (r .bits) i ≡ (has (self .bits) i || eqb i c)) ⌝ }
+    {
+        self.bits |= 1 << (c % NO_CODE);
+        self
+    }
+
+    // The same with any byte: what is above the largest code changes nothing.
+    pub fn with(self, c: u8) -> Self
         ensures { λ r. ⌜ ((i : ℕ) → has (r .bits) i ≡ (has (self .bits) i || (ltb c codeCount && eqb i c))) ⌝ }
     {
         if c < NO_CODE {
-            self.bits |= 1 << c;
+            return self.with_code(c);
         }
         self
     }

@@ -38,19 +38,22 @@ fn joined(parts: Parts, row: Bits, code: u8) -> Parts
     let n = parts.n;
     let sets = parts.sets;
     let mut whole: Bits = 1 << code;
-    let mut out = Parts::new().with(0);
+    // The others go to a table of their own, behind a place for the one: parts that grow by value are copied at every turn.
+    let mut kept = [0; CODE_COUNT];
+    let mut m: usize = 1;
     let mut i: usize = 0;
     while i < n {
         let part = sets[i];
+        i += 1;
         if part & row != 0 {
             whole |= part;
         } else {
-            out = out.with(part);
+            kept[m] = part;
+            m += 1;
         }
-        i += 1;
     }
-    out.sets[0] = whole;
-    out
+    kept[0] = whole;
+    Parts { n: m, sets: kept }
 }
 
 // The components of a relation within a set of codes, by their smallest codes.

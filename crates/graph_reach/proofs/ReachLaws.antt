@@ -6,12 +6,14 @@ use mathlib.Core.Bool.{Bool, true, false, _&&_, _||_}
 use Prim.Native.Nat.{ℕ, _+_, _-_, _≤_, _<_}
 use native.Mathlib.Omega.{arith}
 use lib.Bits.{bitOr}
+use lib.ListN.{getD}
 use Rattle.rules.specs.Words.{from}
 use Rattle.rules.specs.Mining.{Rel, tabled, through}
-use Rattle.rules.proofs.BoolLaws.{bool-ext, or-cases, or-off, and-cases}
+use Rattle.rules.proofs.BoolLaws.{bool-ext, or-cases, or-off, and-cases, more-none}
 use Rattle.rules.proofs.ListLaws.{Has, has-from, from-down}
 use Rattle.code_sets.specs.Bits.{has}
-use Rattle.code_sets.proofs.BitLaws.{has-or}
+use Rattle.code_sets.proofs.BitLaws.{has-or, has-zero}
+use Rattle.graph_rows.specs.Edges.{edgeOf}
 use Rattle.rules.proofs.GraphLaws.{tabled-in, in-tabled, through-chain, chain-through}
 
 -- a row that has k, with the row of k
@@ -21,6 +23,11 @@ step-taken row by k b h = has-or row by b ∙ ap (λ (t : Bool). has row b || (t
 -- a row without k stays
 pub step-left : (row by k b : ℕ) → has row k ≡ false → has row b ≡ (has row b || (has row k && has by b))
 step-left row by k b h = sym (or-off (has row b)) ∙ ap (λ (t : Bool). has row b || (t && has by b)) (sym h)
+
+-- no way leads on through a code whose row is empty
+pub no-way : (rows : List ℕ) (j : ℕ) → getD rows j 0 ≡ 0 → (a b : ℕ) → edgeOf rows a b ≡ (edgeOf rows a b || (edgeOf rows a j && edgeOf rows j b))
+unfolding edgeOf
+no-way rows j e a b = sym (ap (λ (r : ℕ). edgeOf rows a b || (edgeOf rows a j && has r b)) e ∙ ap (λ (t : Bool). edgeOf rows a b || (edgeOf rows a j && t)) (has-zero b) ∙ more-none (edgeOf rows a b) (edgeOf rows a j))
 
 -- a relation between the m codes is its own table
 tabled-all : (m : ℕ) (e : Rel) → ((a b : ℕ) → e a b ≡ true → (a < m) × (b < m)) → (a b : ℕ) → e a b ≡ tabled (from 0 m) e a b

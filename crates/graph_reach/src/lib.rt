@@ -35,7 +35,7 @@ fn by_way(rows: [Bits; CODE_COUNT], k: u8) -> [Bits; CODE_COUNT]
     out
 }
 
-// Who reaches whom by one edge or more.
+// Who reaches whom by one edge or more. No way leads on through a code whose row is empty.
 pub fn reach(rows: [Bits; CODE_COUNT]) -> [Bits; CODE_COUNT]
     ensures { λ r. ⌜ ((a b : ℕ) → edgeOf r a b ≡ through (from 0 codeCount) (from 0 codeCount) (edgeOf rows) a b) ⌝ }
 {
@@ -43,8 +43,11 @@ pub fn reach(rows: [Bits; CODE_COUNT]) -> [Bits; CODE_COUNT]
     let mut k: u8 = NO_CODE;
     while 0 < k {
         k -= 1;
-        let next = by_way(out, k);
-        out = next;
+        let at = k as usize;
+        if out[at] != 0 {
+            let next = by_way(out, k);
+            out = next;
+        }
     }
     out
 }

@@ -1,1 +1,1 @@
-pub mod ColumnLaws
+pub mod TurnedLaws

@@ -98,11 +98,11 @@ filled-edge R a₀ a i l d n j b =
 
 -- ---- a set that a loop fills place by place
 
-and-off : (b : Bool) → (b && false) ≡ false
+pub and-off : (b : Bool) → (b && false) ≡ false
 and-off true = refl
 and-off false = refl
 
-and-on : (b : Bool) → (b && true) ≡ b
+pub and-on : (b : Bool) → (b && true) ≡ b
 and-on true = refl
 and-on false = refl
 
@@ -111,7 +111,7 @@ has-digit : (w d i a : ℕ) → i < w → (d ≡ 0) ⊎ (d ≡ 1) → has ((d * 
 has-digit w d i a l (inl e) = rw e (ap (λ (x : ℕ). has (x % 2 ^ w) a) (zero-mul (2 ^ i)) ∙ ap (λ (x : ℕ). has x a) (zero-mod (2 ^ w)) ∙ has-zero a ∙ sym (and-off (eqb a i)))
 has-digit w d i a l (inr e) = rw e (ap (λ (x : ℕ). has x a) (one-shl w i l) ∙ has-pow i a ∙ sym (and-on (eqb a i)))
 
-ltb-more : (a i : ℕ) → (a ≡ i → ⊥) → ltb a i ≡ ltb a (i + 1)
+pub ltb-more : (a i : ℕ) → (a ≡ i → ⊥) → ltb a i ≡ ltb a (i + 1)
 ltb-more a i n = ⊎-elim (λ (h : a < i). lt-ltb a i h ∙ sym (lt-ltb a (i + 1) (omega arith))) (λ (h : i ≤ a). le-ltb a i h ∙ sym (le-ltb a (i + 1) (omega arith))) (lt-or-le a i)
 
 -- the digits of a test: no place yet

@@ -7,15 +7,20 @@ use native.Mathlib.Nat.{zero-add}
 use native.Mathlib.Omega.{arith}
 use lib.ListN.{length, drop, drop-of-length-le}
 use borrow.Author.Tests.{lt-leb, le-leb}
-use Rattle.rules.specs.Words.{zeros}
+use Rattle.rules.specs.Words.{Has, zeros}
 use Rattle.rules.specs.Trees.{Tree, size}
 use Rattle.rules.specs.Mining.{Log, mined}
-use Rattle.rules.specs.LogBlock.{sealed, logSized}
+use Rattle.rules.specs.LogBlock.{sealed, logSized, logEpisodes}
 use Rattle.rules.specs.TreeBlock.{entries, treeBlock}
 use Rattle.rules.specs.Calls.{told, after, cleared, logSound, mining, treeOf, MineSays, codeCount}
 use Rattle.rules.specs.declared.Answer.{Answer}
 use Rattle.rules.specs.declared.Answer.the-variants.{Gives, Refused}
+use Rattle.rules.proofs.ListLaws.{has-each}
+use Rattle.rules.proofs.SameEpisodes.{Same, mined-same}
 use Rattle.rules.proofs.Occurring.{Below}
+use Rattle.mine_places.specs.Places.{placesIn, episodeOf, episodesOf, Recorded, Listed}
+use Rattle.mine_places.proofs.ListLaws.{all-has}
+use Rattle.mine_gather.specs.Gathering.{listedBy}
 use Rattle.rules.proofs.MinedTree.{mined-fits}
 use Rattle.mine_views.specs.declared.View.{View}
 use Rattle.mine_views.specs.Sublogs.{Sight, shown, sight, sublog, Tight, rootSight}
@@ -67,6 +72,19 @@ module _ (log out work : List ℕ) where
         memory = h ∙ sym (ap (λ (a : Answer). after a (cleared 16384 work) work) e);
       }
 
+-- ---- the listed episodes
+
+-- their codes are codes
+pub listed-below : (w : ℕ) (log places : List ℕ) → Listed w log places → Below codeCount (episodesOf w log places)
+listed-below w log places l t m c k =
+    let h = has-each (episodeOf w log) t (placesIn places) m in
+    let r = all-has (Recorded w log) (placesIn places) (l .all) (h .0) (h .1) in
+    all-has (λ x. x < codeCount) (episodeOf w log (h .0)) (r .events .codes) c (subst (Has c) (h .2) k)
+
+-- they have the tree of the log
+pub same-tree : (w : ℕ) (log : List ℕ) (n : ℕ) (work : List ℕ) → Same (listedBy w log n work) (logEpisodes w log) → mined codeCount (listedBy w log n work) ≡ treeOf w log
+same-tree w log n work s = mined-same codeCount (listedBy w log n work) (logEpisodes w log) s
+
 -- ---- the root
 
 module _ (l : Log) (small : Below codeCount l) (v : View) (sees : sight v ≡ rootSight codeCount l) where
@@ -83,8 +101,8 @@ module _ (l : Log) (small : Below codeCount l) (v : View) (sees : sight v ≡ ro
 
 -- ---- the block
 
-pub clear-whole : (b : List ℕ) → length b ≡ 512 → zeros 512 ++ drop 512 b ≡ zeros 512
-clear-whole b h = ap (λ (z : List ℕ). zeros 512 ++ z) (drop-of-length-le b {i = 512} (omega arith)) ∙ append-nil (zeros 512)
+pub clear-whole : (n : ℕ) (b : List ℕ) → length b ≡ n → zeros n ++ drop n b ≡ zeros n
+clear-whole n b h = ap (λ (z : List ℕ). zeros n ++ z) (drop-of-length-le b {i = n} (omega arith)) ∙ append-nil (zeros n)
 
 drop-zeros : (k n : ℕ) → drop k (zeros n) ≡ zeros (n - k)
 unfolding zeros

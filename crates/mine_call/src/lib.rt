@@ -8,9 +8,11 @@ ghost use Prim.Native.Nat.{_≤_};
 ghost use lib.ListN.{length, drop};
 ghost use Rattle.rules.specs.Words.{zeros};
 ghost use Rattle.rules.specs.Trees.{size};
+ghost use Rattle.rules.specs.Mining.{mined};
 ghost use Rattle.rules.specs.Refusals.{Given};
 ghost use Rattle.rules.specs.TreeBlock.{treeBlock};
-ghost use Rattle.rules.specs.Calls.{logSound, treeOf, MineSays};
+ghost use Rattle.rules.specs.Calls.{logSound, treeOf, MineSays, codeCount};
+ghost use Rattle.mine_places.specs.Places.{episodesOf, Listed};
 
 // The first n bytes become zero.
 fn clear(bytes: &mut [u8], n: usize)
@@ -24,15 +26,27 @@ fn clear(bytes: &mut [u8], n: usize)
     }
 }
 
-// Writes the block of a sound log's tree, and answers the number of nodes.
-fn mine_tree(log: &[u8], tree: &mut [u8]) -> usize
-    requires { ⌜ (length (now tree) ≡ 512) × Given (logSound 1 (now log)) ⌝ }
-    ensures { λ r. ⌜ (r ≡ size (treeOf 1 (now (log .entry)))) × (now (tree .exit) ≡ treeBlock (treeOf 1 (now (log .entry)))) ⌝ }
+// Writes the block of the tree of listed episodes, and answers the number of nodes.
+fn mine_tree(log: &[u8], places: &[u8], w: usize, tree: &mut [u8]) -> usize
+    requires { ⌜ (length (now tree) ≡ 512) × Listed w (now log) (now places) ⌝ }
+    ensures { λ r. ⌜ (r ≡ size (mined codeCount (episodesOf w (now (log .entry)) (now (places .entry))))) × (now (tree .exit) ≡ treeBlock (mined codeCount (episodesOf w (now (log .entry)) (now (places .entry))))) ⌝ }
 {
     clear(tree, TREE_SIZE);
-    let v = mine_root::root_of(log);
-    let nodes = mine_nodes::mine_node(log, tree, v, 0);
+    let v = mine_root::root_of(log, places, w);
+    let nodes = mine_nodes::mine_node(log, places, w, tree, v, 0);
     block_seal::seal(tree);
+    nodes
+}
+
+// Writes the block of a sound log's tree, and answers the number of nodes: each distinct episode is listed, and the list is walked. The work is zero afterwards.
+fn mine_log(log: &[u8], tree: &mut [u8], work: &mut [u8]) -> usize
+    requires { ⌜ (length (now tree) ≡ 512) × (length (now work) ≡ 16384) × (length (now log) ≤ 8192) × Given (logSound 1 (now log)) ⌝ }
+    ensures { λ r. ⌜ (r ≡ size (treeOf 1 (now (log .entry)))) × (now (tree .exit) ≡ treeBlock (treeOf 1 (now (log .entry)))) × (now (work .exit) ≡ zeros 16384) ⌝ }
+{
+    let n = mine_gather::gather(log, work, 1);
+    let end = 2 * n;
+    let nodes = mine_tree(log, &work[..end], 1, tree);
+    clear(work, MINE_WORK);
     nodes
 }
 
@@ -62,7 +76,6 @@ pub fn mine(log: &[u8], out: &mut [u8], work: &mut [u8]) -> Answer
     let Answer::Gives(_) = r else {
         return r;
     };
-    clear(work, MINE_WORK);
-    let nodes = mine_tree(log, &mut out[0..TREE_SIZE]);
+    let nodes = mine_log(log, &mut out[0..TREE_SIZE], &mut work[0..MINE_WORK]);
     Answer::Gives(nodes)
 }

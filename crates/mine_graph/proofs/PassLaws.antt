@@ -4,7 +4,7 @@ use mathlib.Core.List.{[], _++_}
 use Rattle.rules.specs.Mining as mining
 use Rattle.rules.specs.Mining.{Log}
 use Rattle.mine_views.specs.Sublogs.{Sight, piecesOf}
-use Rattle.mine_views.proofs.PassLaws.{pieces-append}
+use Rattle.mine_views.proofs.PieceLaws.{pieces-append}
 use Rattle.mine_trails.specs.Growing.{joined, withPieces}
 use Rattle.mine_trails.proofs.TrailLaws.{joined-nil, joined-append}
 

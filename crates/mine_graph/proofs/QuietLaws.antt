@@ -1,99 +1,113 @@
 -- The test whether a record adds nothing to a graph: what each turn of its loop keeps.
-use mathlib.Core.Path.{_≡_, refl, sym, _∙_, ap}
+use mathlib.Core.Path.{_≡_, refl, sym, _∙_}
+use mathlib.Core.Logic.{inl, inr}
 use mathlib.Core.List.{List, [], _∷_}
-use mathlib.Core.Bool.{Bool, true, false, _&&_, _||_}
-use Prim.Native.Nat.{ℕ, _+_, _%_, _^_, _<_, _≤_}
-use native.Mathlib.Nat.{mod-eq-of-lt}
-use lib.Dec.{ltb}
+use mathlib.Core.Bool.{Bool, true, false, not, _&&_, _||_}
+use Prim.Native.Nat.{ℕ, _+_, _<_, _≤_}
+use native.Mathlib.Omega.{arith}
+use lib.Dec.{eqb}
 use lib.ListN.{length, getD, drop}
-use borrow.Author.Tests.{lt-ltb}
-use Rattle.rules.specs.Words.{pick}
-use Rattle.rules.specs.Mining as mining
+use borrow.Author.Tests.{not-false, eq-eqb}
 use Rattle.rules.specs.Calls.{codeCount}
-use Rattle.rules.proofs.BoolLaws.{and-cases}
+use Rattle.rules.proofs.BoolLaws.{and-cases, or-right}
 use Rattle.code_sets.specs.Bits.{has}
 use Rattle.code_sets.specs.declared.CodeSet.{CodeSet}
-use Rattle.graph_rows.specs.declared.Graph.{Graph}
+use Rattle.code_sets.proofs.BitLaws.{has-zero}
 use Rattle.graph_rows.specs.Edges.{meant}
+use Rattle.mine_places.specs.Places.{codesOf, All}
+use Rattle.mine_places.proofs.ListLaws.{code-here, codes-after}
 use Rattle.mine_views.specs.Sublogs.{walk}
-use Rattle.mine_views.proofs.SetLaws.{has-below}
-use Rattle.mine_trails.specs.Growing.{withPieces, trailed, addsNothing, graphOf}
-use Rattle.mine_trails.proofs.TrailLaws.{noted-event, noted-break, turn-pass, end-again}
+use Rattle.mine_trails.specs.Growing.{Trail, withPieces, trailed, graphOf}
+use Rattle.mine_trails.proofs.TrailLaws.{Turn, There, noted-event, noted-break, turn-pass, end-again}
 use Rattle.mine_trails.proofs.TurnLaws.{trail-start, trail-next, trail-end}
 
--- the known codes are events that add nothing after `last`
-abbrev pub Known : Graph → ℕ → ℕ → ℕ → Type 0
-Known g k last known =
-    (x : ℕ) → has known x ≡ true → (has k x ≡ true) × (addsNothing k (getD (g .rows) (last % codeCount) 0) (g .starts .bits) (g .ends .bits) last x ≡ true)
+-- `found` has what two sets share
+abbrev Meet : ℕ → ℕ → ℕ → Type 0
+Meet a b found = (x : ℕ) → has found x ≡ (has a x && has b x)
 
-module _ (g : Graph) (k : ℕ) where
-  -- at the start of a sub-episode the starts are known
-  known-first : (known : ℕ) → ((x : ℕ) → has known x ≡ (has (g .starts .bits) x && has k x)) → Known g k codeCount known
-  known-first known h x on =
-      let p = and-cases (has (g .starts .bits) x) (has k x) (sym (h x) ∙ on) in
-      (p .1, ap (λ (t : Bool). pick t (has (g .starts .bits) x) true) (p .1) ∙ p .0)
+-- the known codes are events that are there already
+abbrev Known : Trail → ℕ → ℕ → Type 0
+Known s keep known = (x : ℕ) → has known x ≡ true → (has keep x ≡ true) × There s x
 
-  -- after an event the codes of its row are
-  known-row : (known c row : ℕ) → c < codeCount → row ≡ getD (g .rows) c 0 → ((x : ℕ) → has known x ≡ (has row x && has k x)) → Known g k c known
-  known-row known c row l e h x on =
-      let p = and-cases (has row x) (has k x) (sym (h x) ∙ on) in (
-        p .1,
-        (λ i. pick (p .1 i) (pick (lt-ltb c codeCount l i) (has (getD (g .rows) (mod-eq-of-lt l i) 0) x) (has (g .starts .bits) x)) (pick (lt-ltb c codeCount l i) (has (g .ends .bits) c) true))
-            ∙ ap (λ (r : ℕ). has r x) (sym e) ∙ p .0,
-      )
+abbrev at : List ℕ → CodeSet → CodeSet → ℕ → Trail
+at rows ends starts last = record { graph = graphOf rows starts ends; last = last }
 
--- what the loop keeps, whatever the starts and the breaks are that its sets were made of: so far the record adds nothing
-abbrev pub Quiet : List ℕ → List ℕ → CodeSet → ℕ → ℕ → ℕ → ℕ → ℕ → ℕ → Type 0
-Quiet codes rows ends keep watched first known last i =
-    (starts : CodeSet) → ((x : ℕ) → has first x ≡ (has (starts .bits) x && has keep x)) → (b : ℕ) → ((x : ℕ) → has watched x ≡ (has keep x || has b x)) → (bare : Bool) →
-    (withPieces (record { kept = has keep; breaks = has b; bare = bare }) (meant (graphOf rows starts ends) keep) (codes ∷ []) ≡ trailed (record { graph = graphOf rows starts ends; last = last }) keep (walk (has keep) (has b) (drop i codes)))
-    × Known (graphOf rows starts ends) keep last known
+-- whatever the starts and the breaks are that the sets of the loop were made of
+abbrev Each : ℕ → ℕ → ℕ → (CodeSet → ℕ → Type 0) → Type 0
+Each keep watched first P = (starts : CodeSet) → Meet (starts .bits) keep first → (b : ℕ) → ((x : ℕ) → has watched x ≡ (has keep x || has b x)) → P starts b
 
-module _ (codes rows : List ℕ) (ends : CodeSet) (keep watched first : ℕ) where
-  pub quiet-start : Quiet codes rows ends keep watched first first codeCount 0
-  quiet-start starts f b w bare =
-      (trail-start (record { kept = has keep; breaks = has b; bare = bare }) (meant (graphOf rows starts ends) keep) codeCount codes, known-first (graphOf rows starts ends) keep first f)
+-- what the loop keeps: the last code is one of the open set, or none is open, and so far the record adds nothing
+pub record Quiet (w : ℕ) (events rows : List ℕ) (ends : CodeSet) (keep watched first known wait i : ℕ) : Type 0 where
+  pub some : 1 ≤ w
+  pub codes : All (λ c. c < codeCount) (codesOf w (drop i events))
+  pub last : ℕ
+  pub opened : last < codeCount → has wait last ≡ true
+  pub told : Each keep watched first (λ starts b. Known (at rows ends starts last) keep known)
+  pub same :
+      Each keep watched first (λ starts b.
+      trailed (at rows ends starts codeCount) keep (walk (has keep) (has b) (codesOf w events)) ≡ trailed (at rows ends starts last) keep (walk (has keep) (has b) (codesOf w (drop i events))))
 
-  module _ (known last i : ℕ) (q : Quiet codes rows ends keep watched first known last i) where
-    abbrev here : ℕ
-    here = getD codes i 0
+-- at the start of a sub-episode the starts are known
+known-first : (rows : List ℕ) (ends : CodeSet) (keep watched first : ℕ) → Each keep watched first (λ starts b. Known (at rows ends starts codeCount) keep first)
+known-first rows ends keep watched first starts f b h x on = let p = and-cases (has (starts .bits) x) (has keep x) (sym (f x) ∙ on) in (p .1, inr (omega arith, p .0))
 
-    module _ (inside : i < length codes) where
-      pub quiet-event : keep < 2 ^ codeCount → (t : Bool) → t ≡ has known here → t ≡ true → (row next : ℕ) → row ≡ getD rows here 0 → ((x : ℕ) → has next x ≡ (has row x && has keep x)) →
-          Quiet codes rows ends keep watched first next here (i + 1)
-      quiet-event small t call on row next e h starts f b w bare =
-          let g = graphOf rows starts ends in
-          let now = q starts f b w bare in
-          let k = now .1 here (sym call ∙ on) in (
-            trail-next codes i keep b keep (record { graph = g; last = last }) _ (now .0) inside (record { graph = g; last = here }) (noted-event g last keep b here small (k .0) (k .1)),
-            known-row g keep next here row (has-below codeCount keep here small (k .0)) e h,
-          )
+-- before the first code
+pub quiet-start : (w : ℕ) (events rows : List ℕ) (ends : CodeSet) (keep watched first wait : ℕ) → 1 ≤ w → All (λ c. c < codeCount) (codesOf w events) →
+    Quiet w events rows ends keep watched first first wait 0
+quiet-start w events rows ends keep watched first wait some all =
+    record { some = some; codes = all; last = codeCount; opened = λ l. absurd (omega arith); told = known-first rows ends keep watched first; same = λ starts f b h. refl }
 
-      pub quiet-break : (v : Bool) → v ≡ has watched here → v ≡ true → (t : Bool) → t ≡ has keep here → t ≡ false → (u : Bool) → u ≡ pick (ltb last codeCount) (has (ends .bits) last) true → u ≡ true →
-          Quiet codes rows ends keep watched first first codeCount (i + 1)
-      quiet-break v seen on t call off u told noted starts f b w bare =
-          let g = graphOf rows starts ends in
-          let now = q starts f b w bare in
-          let none : has keep here ≡ false = sym call ∙ off in
-          let at : has b here ≡ true = rw none at (sym (w here) ∙ sym seen ∙ on) in (
-            trail-next codes i keep b keep (record { graph = g; last = last }) _ (now .0) inside (record { graph = g; last = codeCount })
-                (noted-break g last keep b here none at (ap (λ (z : Bool). pick z (pick (ltb last codeCount) (has (getD rows (last % codeCount) 0) here) (has (starts .bits) here)) (pick (ltb last codeCount) (has (ends .bits) last) true)) none ∙ sym told ∙ noted)),
-            known-first g keep first f,
-          )
+module _ {w : ℕ} {events rows : List ℕ} {ends : CodeSet} {keep watched first known wait i : ℕ} (q : Quiet w events rows ends keep watched first known wait i) where
+  abbrev here : ℕ
+  here = getD events i 0
 
-      pub quiet-pass : keep < 2 ^ codeCount → (v : Bool) → v ≡ has watched here → v ≡ false → Quiet codes rows ends keep watched first known last (i + 1)
-      quiet-pass small v seen off starts f b w bare =
-          let g = graphOf rows starts ends in
-          let now = q starts f b w bare in (
-            trail-next codes i keep b keep (record { graph = g; last = last }) _ (now .0) inside (record { graph = g; last = last })
-                (turn-pass g last keep b here small v (seen ∙ w here) off g last refl refl),
-            now .1,
-          )
+  abbrev was : CodeSet → Trail
+  was starts = at rows ends starts (q .last)
 
-    pub quiet-end : length codes ≤ i → (u : Bool) → u ≡ pick (ltb last codeCount) (has (ends .bits) last) true → u ≡ true →
-        (starts : CodeSet) → ((x : ℕ) → has first x ≡ (has (starts .bits) x && has keep x)) → (b : ℕ) → ((x : ℕ) → has watched x ≡ (has keep x || has b x)) → (bare : Bool) →
-        withPieces (record { kept = has keep; breaks = has b; bare = bare }) (meant (graphOf rows starts ends) keep) (codes ∷ []) ≡ meant (graphOf rows starts ends) keep
-    quiet-end all u told noted starts f b w bare =
-        let g = graphOf rows starts ends in
-        let now = q starts f b w bare in
-        sym (trail-end codes i keep b keep (record { graph = g; last = last }) _ (now .0) all g (λ n v. end-again g last n v (sym told ∙ noted)))
+  -- nothing is left of the open set without the ends: the last code is an end
+  noted : (left : ℕ) → ((x : ℕ) → has left x ≡ (has wait x && not (has (ends .bits) x))) → left ≡ 0 → q .last < codeCount → has (ends .bits) (q .last) ≡ true
+  noted left e none l = not-false _ (sym (rw (none, q .opened l, has-zero) at (e (q .last))))
+
+  -- after the last code
+  pub quiet-end : length events ≤ i → (left : ℕ) → ((x : ℕ) → has left x ≡ (has wait x && not (has (ends .bits) x))) → left ≡ 0 → (bare : Bool) →
+      Each keep watched first (λ starts b.
+      withPieces (record { kept = has keep; breaks = has b; bare = bare }) (meant (graphOf rows starts ends) keep) (codesOf w events ∷ []) ≡ meant (graphOf rows starts ends) keep)
+  quiet-end all left e none bare starts f b h =
+      trail-start (record { kept = has keep; breaks = has b; bare = bare }) (meant (graphOf rows starts ends) keep) codeCount (codesOf w events)
+      ∙ sym (trail-end w (q .some) events i keep b keep (was starts) _ (q .same starts f b h) all (graphOf rows starts ends) (end-again (was starts) (noted left e none)))
+
+  module _ (more : i < length events) where
+    -- one more code, whatever it is
+    turn : (next now last : ℕ) → (last < codeCount → has now last ≡ true) → Each keep watched first (λ starts b. Known (at rows ends starts last) keep next) →
+        Each keep watched first (λ starts b. Turn (was starts) keep b here (at rows ends starts last)) → Quiet w events rows ends keep watched first next now (i + w)
+    turn next now last o k t =
+        record {
+          some = q .some;
+          codes = codes-after w (q .some) events i (q .codes) more;
+          last = last;
+          opened = o;
+          told = k;
+          same = λ starts f b h. trail-next w (q .some) events i keep b keep (was starts) _ (q .same starts f b h) more (at rows ends starts last) (t starts f b h);
+        }
+
+    -- a known code: after it the codes of its row are known
+    pub quiet-event : {t : Bool} → t ≡ has known here → t ≡ true → {next : ℕ} → Meet (getD rows here 0) keep next → (none : ℕ) {now : ℕ} → ((x : ℕ) → has now x ≡ (has none x || eqb x here)) →
+        Quiet w events rows ends keep watched first next now (i + w)
+    quiet-event call on {next} e none {now} o =
+        let below = code-here w (q .some) events i (q .codes) more in
+        turn next now here (λ l. o here ∙ or-right (has none here) (eqb here here) (eq-eqb here here refl))
+        (λ starts f b h x y. let p = and-cases (has (getD rows here 0) x) (has keep x) (sym (e x) ∙ y) in (p .1, inl (below, p .0)))
+        (λ starts f b h. let k = q .told starts f b h here (sym call ∙ on) in noted-event (was starts) keep b here below (k .0) (k .1))
+
+    module _ {v : Bool} (seen : v ≡ has watched here) where
+      -- a break, where the end that it makes is noted
+      pub quiet-break : v ≡ true → {t : Bool} → t ≡ has keep here → t ≡ false →
+          (left : ℕ) → ((x : ℕ) → has left x ≡ (has wait x && not (has (ends .bits) x))) → left ≡ 0 → {now : ℕ} → Quiet w events rows ends keep watched first first now (i + w)
+      quiet-break on call off left e none {now} =
+          let no : has keep here ≡ false = sym call ∙ off in
+          turn first now codeCount (λ l. absurd (omega arith)) (known-first rows ends keep watched first)
+          (λ starts f b h. noted-break (was starts) keep b here no (rw no at (sym (h here) ∙ sym seen ∙ on)) (noted left e none))
+
+      -- a code that is passed over
+      pub quiet-pass : v ≡ false → Quiet w events rows ends keep watched first known wait (i + w)
+      quiet-pass off = turn known wait (q .last) (q .opened) (q .told) (λ starts f b h. turn-pass (was starts) keep b here v (seen ∙ h here) off)

@@ -1,154 +1,150 @@
 -- What each code of a record adds to the parts that are missed.
-use mathlib.Core.Path.{_≡_, refl, sym, _∙_, ap}
+use mathlib.Core.Path.{_≡_, refl, sym, _∙_, ap, fun-ext}
 use mathlib.Core.List.{List, [], _∷_}
 use mathlib.Core.Bool.{Bool, true, false, not, _&&_, _||_}
-use Prim.Native.Nat.{ℕ, _+_, _^_, _≤_, _<_}
-use native.Mathlib.Numerals.{add-one}
+use Prim.Native.Nat.{ℕ, _+_, _≤_, _<_}
 use native.Mathlib.Omega.{arith}
 use lib.Dec.{eqb, ltb}
-use lib.ListN.{length, getD, drop, drop-of-length-le}
-use lib.Seq.{drop-cons}
-use borrow.Author.Tests.{eqb-true, eq-eqb, lt-ltb}
-use Rattle.rules.specs.Words.{any, push, keep, mem, from}
-use Rattle.rules.specs.Mining.{isEmpty, project}
+use lib.ListN.{length, getD, drop}
+use borrow.Author.Tests.{eqb-true, eq-eqb, not-true}
+use Rattle.rules.specs.Words.{any, push, mem, from}
+use Rattle.rules.specs.Mining.{Episode, isEmpty, project}
 use Rattle.rules.specs.Calls.{codeCount}
-use Rattle.rules.proofs.BoolLaws.{bool-ext, or-right}
-use Rattle.rules.proofs.ListLaws.{has-mem, has-from}
+use Rattle.rules.proofs.BoolLaws.{bool-ext, or-off, or-right, and-cases, more-none, more-twice}
+use Rattle.rules.proofs.ListLaws.{any-false, has-mem, has-from}
 use Rattle.code_sets.specs.Bits.{has}
 use Rattle.code_sets.proofs.BitLaws.{has-zero}
-use Rattle.mine_views.specs.Sublogs.{Set, Sight, Walk, stepBy, walk, done, lacks}
-use Rattle.mine_views.proofs.SetLaws.{has-below}
-use Rattle.mine_views.proofs.PassLaws.{pieces-one}
+use Rattle.mine_places.specs.Places.{codesOf}
+use Rattle.mine_places.proofs.ListLaws.{codes-next, codes-end}
+use Rattle.mine_views.specs.Sublogs.{Set, Walk, stepBy, walk, done, lacks}
+use Rattle.mine_views.proofs.PieceLaws.{pieces-one}
 use Rattle.mine_missed.specs.Missed.{partAt, missedBy, lackedBy}
+use Rattle.mine_missed.proofs.MissedLaws.{same-at, spread}
 
 -- does a sub-episode lack the part's codes, in the rest of a walk? The open one has had an event of the part's, or another one, or none.
-pub lackingOn : List ℕ → Bool → Bool → Walk → Bool
+lackingOn : List ℕ → Bool → Bool → Walk → Bool
 lackingOn p true some w = any (lacks p) (w .1)
 lackingOn p false true w = lacks p (w .0) || any (lacks p) (w .1)
 lackingOn p false false w = any (lacks p) (done w)
 
+-- a code that is no cut: an event where it is kept
 module _ (p : List ℕ) (x : ℕ) (w : Walk) where
-  event-on : (q : Bool) → mem x p ≡ q → (mine some : Bool) → lackingOn p (mine || q) true w ≡ lackingOn p mine some (x ∷ w .0, w .1)
+  event : (q : Bool) → lackingOn p q true w ≡ (isEmpty (push q x (project p (w .0))) || any (lacks p) (w .1))
   unfolding lackingOn project
-  event-on q e true some = refl
-  event-on true e false true = ap (λ (t : Bool). isEmpty (push t x (keep (λ c. mem c p) (w .0))) || any (lacks p) (w .1)) (sym e)
-  event-on true e false false = ap (λ (t : Bool). isEmpty (push t x (keep (λ c. mem c p) (w .0))) || any (lacks p) (w .1)) (sym e)
-  event-on false e false true = ap (λ (t : Bool). isEmpty (push t x (keep (λ c. mem c p) (w .0))) || any (lacks p) (w .1)) (sym e)
-  event-on false e false false = ap (λ (t : Bool). isEmpty (push t x (keep (λ c. mem c p) (w .0))) || any (lacks p) (w .1)) (sym e)
+  event true = refl
+  event false = refl
 
-break-on : (p : List ℕ) (w : Walk) (mine some : Bool) → ((some && not mine) || lackingOn p false false w) ≡ lackingOn p mine some ([], done w)
+  event-on : (kept mine some : Bool) → lackingOn p (mine || (kept && mem x p)) (some || (kept && true)) w ≡ lackingOn p mine some (stepBy kept false x w)
+  unfolding lackingOn project
+  event-on false mine some = λ i. lackingOn p (or-off mine i) (or-off some i) w
+  event-on true true some = refl
+  event-on true false true = event (mem x p)
+  event-on true false false = event (mem x p)
+
+-- a cut
+cut-on : (p : List ℕ) (w : Walk) (mine some : Bool) → ((some && not mine) || any (lacks p) (done w)) ≡ lackingOn p mine some ([], done w)
 unfolding lackingOn project
-break-on p w true true = refl
-break-on p w true false = refl
-break-on p w false true = refl
-break-on p w false false = refl
+cut-on p w true true = refl
+cut-on p w true false = refl
+cut-on p w false true = refl
+cut-on p w false false = refl
 
-end-on : (p : List ℕ) (mine some : Bool) → (some && not mine) ≡ lackingOn p mine some ([], [])
-unfolding lackingOn project
-end-on p true true = refl
-end-on p true false = refl
-end-on p false true = refl
-end-on p false false = refl
+-- ---- the events of the open sub-episode, as a set: those of the codes that were seen that are kept
 
--- ---- the events of the open sub-episode, as a set
+abbrev own : ℕ → ℕ → Set
+own seen k y = has seen y && has k y
 
-no-event : (xs : List ℕ) → any (has 0) xs ≡ false
-no-event [] = refl
-no-event (x ∷ xs) = (λ i. has-zero x i || any (has 0) xs) ∙ no-event xs
+-- one more code
+module _ (seen next k c : ℕ) (grew : (y : ℕ) → has next y ≡ (has seen y || eqb y c)) where
+  own-more : (y : ℕ) → own next k y ≡ (own seen k y || (has k c && eqb c y))
+  own-more y =
+      let turn : eqb c y ≡ eqb y c = bool-ext (eqb c y) (eqb y c) (λ e. eq-eqb y c (sym (eqb-true c y e))) (λ e. eq-eqb c y (sym (eqb-true y c e))) in
+      rw (grew y, turn, ← same-at (has k) y c, spread false (has seen y) (eqb y c) (has k y))
 
--- one more event
-any-more : (seen next c : ℕ) → c < codeCount → ((y : ℕ) → has next y ≡ (has seen y || (ltb c codeCount && eqb y c))) → (xs : List ℕ) → any (has next) xs ≡ (any (has seen) xs || mem c xs)
-any-more seen next c l grew [] = refl
-any-more seen next c l grew (y ∷ xs) =
-    (λ i. (grew y ∙ ap (λ (t : Bool). has seen y || (t && eqb y c)) (lt-ltb c codeCount l)) i || any-more seen next c l grew xs i)
-    ∙ turn (has seen y) (eqb y c) (any (has seen) xs) (mem c xs)
-    ∙ ap (λ (t : Bool). (has seen y || any (has seen) xs) || (t || mem c xs)) (eqb-turn y c)
-  where
-    turn : (a e b m : Bool) → ((a || e) || (b || m)) ≡ ((a || b) || (e || m))
-    turn true e b m = refl
-    turn false true true m = refl
-    turn false true false m = refl
-    turn false false b m = refl
-
-    eqb-turn : (a b : ℕ) → eqb a b ≡ eqb b a
-    eqb-turn a b = bool-ext (eqb a b) (eqb b a) (λ e. eq-eqb b a (sym (eqb-true a b e))) (λ e. eq-eqb a b (sym (eqb-true b a e)))
-
--- ---- the loop over a record's codes
-
--- the parts that are missed, with those that the rest of a walk lacks
-pub restMissed : List ℕ → ℕ → ℕ → Walk → Set
-restMissed sets m seen w j =
-    has m j || (ltb j (length sets) && lackingOn (partAt sets j) (any (has seen) (partAt sets j)) (any (has seen) (from 0 codeCount)) w)
-
--- before the first code
-pub missed-start : (s : Sight) (sets : List ℕ) (m seen : ℕ) (codes : List ℕ) → seen ≡ 0 →
-    missedBy s sets (has m) (codes ∷ []) ≡ restMissed sets m seen (walk (s .kept) (s .breaks) codes)
-unfolding missedBy restMissed lackingOn
-missed-start s sets m seen codes e = λ i j.
-    (ap (λ (l : List (List ℕ)). has m j || (ltb j (length sets) && any (lacks (partAt sets j)) l)) (sym (pieces-one s codes))
-    ∙ (λ h. has m j || (ltb j (length sets) && lackingOn (partAt sets j) (sym (no-event (partAt sets j)) h) (sym (no-event (from 0 codeCount)) h) (walk (s .kept) (s .breaks) codes)))
-    ∙ ap (λ (x : ℕ). restMissed sets m x (walk (s .kept) (s .breaks) codes) j) (sym e)) i
-
-module _ (codes sets : List ℕ) (i k b m seen : ℕ) (all : Set) (inv : all ≡ restMissed sets m seen (walk (has k) (has b) (drop i codes))) where
-  abbrev here : ℕ
-  here = getD codes i 0
-
-  abbrev rest : Walk
-  rest = walk (has k) (has b) (drop (i + 1) codes)
-
-  walk-next : i < length codes → walk (has k) (has b) (drop i codes) ≡ stepBy (has k here) (has b here) here rest
-  walk-next h = ap (walk (has k) (has b)) (rest-is h)
+  any-more : (xs : List ℕ) → any (own next k) xs ≡ (any (own seen k) xs || (has k c && mem c xs))
+  any-more [] = sym (more-none false (has k c))
+  any-more (y ∷ xs) = (λ i. own-more y i || any-more xs i) ∙ turn (own seen k y) (any (own seen k) xs) (has k c) (eqb c y) (mem c xs)
     where
-      rest-is : i < length codes → drop i codes ≡ here ∷ drop (i + 1) codes
-      rest-is l = rw (add-one, drop-cons codes i 0)
+      turn : (a b q e m : Bool) → ((a || (q && e)) || (b || (q && m))) ≡ ((a || b) || (q && (e || m)))
+      turn true b q e m = refl
+      turn false true q e m = or-right (q && e) true refl
+      turn false false true e m = refl
+      turn false false false e m = refl
 
-  module _ (h : i < length codes) (t : Bool) (call : t ≡ has k here) where
-    -- an event
-    pub missed-event : k < 2 ^ codeCount → t ≡ true → (next : ℕ) → ((y : ℕ) → has next y ≡ (has seen y || (ltb here codeCount && eqb y here))) → all ≡ restMissed sets m next rest
-    unfolding restMissed
-    missed-event small on next grew = λ g j.
-        (ap (λ (f : Set). f j) inv
-        ∙ ap (λ (w : Walk). restMissed sets m seen w j) (walk-next h)
-        ∙ ap (λ (u : Bool). restMissed sets m seen (stepBy u (has b here) here rest) j) kept
-        ∙ ap (λ (u : Bool). has m j || (ltb j (length sets) && u)) (sym (event-on (partAt sets j) here rest (mem here (partAt sets j)) refl (any (has seen) (partAt sets j)) (any (has seen) (from 0 codeCount))))
-        ∙ (λ q. has m j || (ltb j (length sets) && lackingOn (partAt sets j) (sym (any-more seen next here below grew (partAt sets j)) q) (sym (any-more seen next here below grew (from 0 codeCount) ∙ among) q) rest))) g
-      where
-        kept : has k here ≡ true
-        kept = sym call ∙ on
+-- ---- the parts that are missed, with those that some sub-episodes lack, and with those that the rest of a walk lacks
 
-        below : here < codeCount
-        below = has-below codeCount k here small kept
+abbrev lackedIn : List ℕ → ℕ → List Episode → Set
+lackedIn sets m l j = has m j || (ltb j (length sets) && any (lacks (partAt sets j)) l)
 
-        among : (any (has seen) (from 0 codeCount) || mem here (from 0 codeCount)) ≡ true
-        among = or-right (any (has seen) (from 0 codeCount)) (mem here (from 0 codeCount)) (has-mem here (from 0 codeCount) (has-from codeCount 0 here (omega arith) (let l = below in omega arith)))
+restMissed : List ℕ → ℕ → Set → Walk → Set
+restMissed sets m o w j = has m j || (ltb j (length sets) && lackingOn (partAt sets j) (any o (partAt sets j)) (any o (from 0 codeCount)) w)
 
-    module _ (off : t ≡ false) (u : Bool) (told : u ≡ has b here) where
-      -- the sub-episode ends
-      pub missed-break : u ≡ true → (n : ℕ) → ((j : ℕ) → has n j ≡ (has m j || lackedBy sets (has seen) j)) → (next : ℕ) → next ≡ 0 → all ≡ restMissed sets n next rest
-      unfolding restMissed
-      missed-break on n grew next z = λ g j.
-          (ap (λ (f : Set). f j) inv
-          ∙ ap (λ (w : Walk). restMissed sets m seen w j) (walk-next h)
-          ∙ (λ q. restMissed sets m seen (stepBy ((sym call ∙ off) q) ((sym told ∙ on) q) here rest) j)
-          ∙ ap (λ (v : Bool). has m j || (ltb j (length sets) && v)) (sym (break-on (partAt sets j) rest (any (has seen) (partAt sets j)) (any (has seen) (from 0 codeCount))))
-          ∙ sym (both (has m j) (ltb j (length sets)) (any (has seen) (from 0 codeCount) && not (any (has seen) (partAt sets j))) (lackingOn (partAt sets j) false false rest))
-          ∙ (λ q. sym (grew j) q || (ltb j (length sets) && lackingOn (partAt sets j) (sym (no-event (partAt sets j)) q) (sym (no-event (from 0 codeCount)) q) rest))
-          ∙ ap (λ (x : ℕ). restMissed sets n x rest j) (sym z)) g
-        where
-          both : (t l a c : Bool) → ((t || (l && a)) || (l && c)) ≡ (t || (l && (a || c)))
-          both true l a c = refl
-          both false true a c = refl
-          both false false a c = refl
+-- no event is open
+fresh : (sets : List ℕ) (m seen k : ℕ) (w : Walk) → seen ≡ 0 → restMissed sets m (own seen k) w ≡ lackedIn sets m (done w)
+unfolding restMissed lackingOn
+fresh sets m seen k w e = λ i j. has m j || (ltb j (length sets) && lackingOn (partAt sets j) (none (partAt sets j) i) (none (from 0 codeCount) i) w)
+  where
+    none : (xs : List ℕ) → any (own seen k) xs ≡ false
+    none xs = any-false (own seen k) xs (λ y _. rw (e, has-zero))
 
-      -- the code is passed over
-      pub missed-pass : u ≡ false → all ≡ restMissed sets m seen rest
-      missed-pass out = inv ∙ ap (restMissed sets m seen) (walk-next h ∙ (λ q. stepBy ((sym call ∙ off) q) ((sym told ∙ out) q) here rest))
+-- the open events, which a number has, end
+ended : (sets : List ℕ) (m seen k e : ℕ) → ((y : ℕ) → has e y ≡ own seen k y) → (n : ℕ) → ((j : ℕ) → has n j ≡ (has m j || lackedBy sets (has e) j)) → (w : Walk) →
+    restMissed sets m (own seen k) ([], done w) ≡ lackedIn sets n (done w)
+unfolding restMissed
+ended sets m seen k e met n grew w = fun-ext (λ j. rw (grew j, more-twice, cut-on) (λ i. restMissed sets m (λ y. sym (met y) i) ([], done w) j))
 
-  -- the record ends
-  pub missed-end : length codes ≤ i → (r : ℕ) → ((j : ℕ) → has r j ≡ (has m j || lackedBy sets (has seen) j)) → has r ≡ all
-  unfolding restMissed
-  missed-end h r grew = λ g j.
-      (grew j
-      ∙ ap (λ (u : Bool). has m j || (ltb j (length sets) && u)) (end-on (partAt sets j) (any (has seen) (partAt sets j)) (any (has seen) (from 0 codeCount)))
-      ∙ ap (λ (w : Walk). restMissed sets m seen w j) (sym (ap (walk (has k) (has b)) (drop-of-length-le codes h)))
-      ∙ ap (λ (f : Set). f j) (sym inv)) g
+-- ---- the loop over a record's events
+
+-- the parts that are missed, where the loop has come to a byte
+pub missedFrom : List ℕ → ℕ → ℕ → ℕ → List ℕ → ℕ → ℕ → ℕ → Set
+missedFrom sets k cuts w s m seen i = restMissed sets m (own seen k) (walk (has k) (has cuts) (codesOf w (drop i s)))
+
+module _ (sets : List ℕ) (k cuts w : ℕ) (some : 1 ≤ w) (s : List ℕ) (m seen i : ℕ) (h : i < length s) (t : Bool) (call : t ≡ has cuts (getD s i 0)) where
+  turned : missedFrom sets k cuts w s m seen i ≡ restMissed sets m (own seen k) (stepBy (has k (getD s i 0)) t (getD s i 0) (walk (has k) (has cuts) (codesOf w (drop (i + w) s))))
+  unfolding missedFrom
+  turned = rw call (ap (λ (l : List ℕ). restMissed sets m (own seen k) (walk (has k) (has cuts) l)) (codes-next w some s i h))
+
+  -- a code that is no cut
+  pub missed-seen : t ≡ false → getD s i 0 < codeCount → (next : ℕ) → ((y : ℕ) → has next y ≡ (has seen y || eqb y (getD s i 0))) → missedFrom sets k cuts w s m seen i ≡ missedFrom sets k cuts w s m next (i + w)
+  unfolding missedFrom restMissed
+  missed-seen off small next grew =
+      let c = getD s i 0 in
+      let among : mem c (from 0 codeCount) ≡ true = has-mem c (from 0 codeCount) (has-from codeCount 0 c (omega arith) (omega arith)) in
+      turned ∙ fun-ext (λ j. rw (off, any-more seen next k c grew (partAt sets j), any-more seen next k c grew (from 0 codeCount), among, event-on))
+
+-- the cuts are the breaks that are not kept
+module _ (k b cuts : ℕ) (apart : (y : ℕ) → has cuts y ≡ (has b y && not (has k y))) where
+  walk-cuts : (t : List ℕ) → walk (has k) (has cuts) t ≡ walk (has k) (has b) t
+  walk-cuts [] = refl
+  walk-cuts (x ∷ t) = (λ i. stepBy (has k x) (apart x i) x (walk-cuts t i)) ∙ by (has k x) (has b x)
+    where
+      by : (q r : Bool) → stepBy q (r && not q) x (walk (has k) (has b) t) ≡ stepBy q r x (walk (has k) (has b) t)
+      by true r = refl
+      by false true = refl
+      by false false = refl
+
+  -- before the first event
+  pub missed-first : (bare : Bool) (sets : List ℕ) (w : ℕ) (s : List ℕ) (m seen : ℕ) → seen ≡ 0 →
+      missedFrom sets k cuts w s m seen 0 ≡ missedBy (record { kept = has k; breaks = has b; bare = bare }) sets (has m) (codesOf w s ∷ [])
+  unfolding missedFrom missedBy
+  missed-first bare sets w s m seen e =
+      fresh sets m seen k (walk (has k) (has cuts) (codesOf w s)) e
+      ∙ ap (lackedIn sets m) (ap done (walk-cuts (codesOf w s)) ∙ pieces-one (record { kept = has k; breaks = has b; bare = bare }) (codesOf w s))
+
+  -- a number has the open events
+  module _ (seen e : ℕ) (met : (y : ℕ) → has e y ≡ own seen k y) (sets : List ℕ) (m n : ℕ) (grew : (j : ℕ) → has n j ≡ (has m j || lackedBy sets (has e) j)) (w : ℕ) (some : 1 ≤ w) (s : List ℕ) (i : ℕ) where
+    -- at a cut
+    pub missed-cut : i < length s → (t : Bool) → t ≡ has cuts (getD s i 0) → t ≡ true → (next : ℕ) → next ≡ 0 → missedFrom sets k cuts w s m seen i ≡ missedFrom sets k cuts w s n next (i + w)
+    unfolding missedFrom
+    missed-cut h t call on next z =
+        let c = getD s i 0 in
+        let rest = walk (has k) (has cuts) (codesOf w (drop (i + w) s)) in
+        let off = not-true (has k c) (and-cases (has b c) (not (has k c)) (sym (apart c) ∙ sym call ∙ on) .1) in
+        turned sets k cuts w some s m seen i h t call
+        ∙ (λ q. restMissed sets m (own seen k) (stepBy (off q) (on q) c rest))
+        ∙ ended sets m seen k e met n grew rest ∙ sym (fresh sets n next k rest z)
+
+    -- at the record's end
+    pub missed-end : length s ≤ i → has n ≡ missedFrom sets k cuts w s m seen i
+    unfolding missedFrom
+    missed-end h = rw (codes-end w some s i h) (sym (ended sets m seen k e met n grew ([], []) ∙ fun-ext (λ j. more-none (has n j) (ltb j (length sets)))))

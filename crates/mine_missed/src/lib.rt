@@ -2,19 +2,17 @@
 use code_sets::Bits;
 use code_sets::CodeSet;
 use mine_views::View;
-use rules::BLOCK_SIZE;
 use rules::Operator;
 ghost use mathlib.Core.Path.{_≡_};
 ghost use mathlib.Core.Bool.{_||_, _&&_};
 ghost use mathlib.Core.List.{[], _∷_};
 ghost use Prim.Native.Nat.{ℕ, _≤_, _<_};
 ghost use lib.Dec.{ltb};
-ghost use lib.ListN.{length, getD};
-ghost use Rattle.rules.specs.Refusals.{Given};
-ghost use Rattle.rules.specs.LogBlock.{recordsAt, blockEpisodes, logEpisodes};
-ghost use Rattle.rules.specs.Calls.{topCode, logSound, codeCount};
+ghost use lib.ListN.{length};
+ghost use Rattle.rules.specs.Calls.{codeCount};
 ghost use Rattle.rules.specs.TreeBlock.{opOf};
 ghost use Rattle.code_sets.specs.Bits.{has};
+ghost use Rattle.mine_places.specs.Places.{codesOf, episodesOf, Events, Listed};
 ghost use Rattle.mine_views.specs.Sublogs.{sight, bareOf, partSight};
 ghost use Rattle.mine_missed.specs.Missed.{partAt, missedBy, lackedBy};
 
@@ -39,45 +37,28 @@ fn with_lacked(own: CodeSet, sets: &[Bits], missed: Bits) -> Bits
     m
 }
 
-// The parts that a sub-episode of one record's codes lacks, besides those missed before.
-fn missed_codes(codes: &[u8], v: View, sets: &[Bits], missed: Bits) -> Bits
-    requires { ⌜ length (now sets) ≤ codeCount ⌝ }
-    ensures { λ r. ⌜ has r ≡ missedBy (sight v) (now (sets .entry)) (has missed) (now (codes .entry) ∷ []) ⌝ }
+// The parts that a sub-episode of one record's codes lacks, besides those missed before. `seen` may have codes that are no events of the view.
+fn missed_codes(events: &[u8], w: usize, v: View, sets: &[Bits], missed: Bits) -> Bits
+    requires { ⌜ (length (now sets) ≤ codeCount) × Events w (now events) ⌝ }
+    ensures { λ r. ⌜ has r ≡ missedBy (sight v) (now (sets .entry)) (has missed) (codesOf w (now (events .entry)) ∷ []) ⌝ }
 {
     let keep = v.keep;
     let breaks = v.breaks;
+    let cuts = breaks.minus(keep);
     let mut m = missed;
     let mut seen = CodeSet::none();
     let mut i: usize = 0;
-    while i < codes.len() {
-        let c = codes[i];
-        i += 1;
-        if keep.has(c) {
-            seen = seen.with(c);
-        } else if breaks.has(c) {
-            m = with_lacked(seen, sets, m);
+    while i < events.len() {
+        let c = events[i];
+        i += w;
+        if cuts.has_first(c) {
+            m = with_lacked(seen.meet(keep), sets, m);
             seen = CodeSet::none();
+        } else {
+            seen = seen.with_code(c);
         }
     }
-    with_lacked(seen, sets, m)
-}
-
-// The parts that a sub-episode of one block's records lacks, besides those missed before.
-fn missed_block(block: &[u8], v: View, sets: &[Bits], missed: Bits) -> Bits
-    requires { ⌜ (length (now block) ≡ 512) × Given (recordsAt 1 topCode (getD (now block) 0 0) (now block) 1) × (length (now sets) ≤ codeCount) ⌝ }
-    ensures { λ r. ⌜ has r ≡ missedBy (sight v) (now (sets .entry)) (has missed) (blockEpisodes 1 (now (block .entry))) ⌝ }
-{
-    let mut m = missed;
-    let mut at: usize = 1;
-    let mut left = block[0] as usize;
-    while 0 < left {
-        let next = log_records::next_record(block, at, 1);
-        let from = at + 1;
-        m = missed_codes(&block[from..next], v, sets, m);
-        at = next;
-        left -= 1;
-    }
-    m
+    with_lacked(seen.meet(keep), sets, m)
 }
 
 // Every part where the empty episode is there too, and none otherwise.
@@ -91,31 +72,37 @@ fn at_first(bare: bool) -> Bits
 }
 
 // The parts that an episode of the view lacks.
-fn missed_of(log: &[u8], v: View, sets: &[Bits]) -> Bits
-    requires { ⌜ Given (logSound 1 (now log)) × (length (now sets) ≤ codeCount) ⌝ }
-    ensures { λ r. ⌜ ((k : ℕ) → k < length (now (sets .entry)) → has r k ≡ bareOf (partAt (now (sets .entry)) k) (logEpisodes 1 (now (log .entry))) (sight v)) ⌝ }
+fn missed_of(log: &[u8], places: &[u8], w: usize, v: View, sets: &[Bits]) -> Bits
+    requires { ⌜ Listed w (now log) (now places) × (length (now sets) ≤ codeCount) ⌝ }
+    ensures { λ r. ⌜ ((k : ℕ) → k < length (now (sets .entry)) → has r k ≡ bareOf (partAt (now (sets .entry)) k) (episodesOf w (now (log .entry)) (now (places .entry))) (sight v)) ⌝ }
 {
     let mut m = at_first(v.bare);
-    let mut base: usize = 0;
-    let mut left = log.len() / BLOCK_SIZE;
-    while 0 < left {
-        let end = base + BLOCK_SIZE;
-        m = missed_block(&log[base..end], v, sets, m);
-        base = end;
-        left -= 1;
+    let mut i: usize = 0;
+    while i < places.len() / 2 {
+        let at = mine_places::place_at(places, 2 * i);
+        let events = mine_places::events_at(log, at, w);
+        i += 1;
+        m = missed_codes(events, w, v, sets, m);
     }
     m
 }
 
 // The parts under a cut whose views have the empty episode: a choice and a loop make none.
-pub fn missed_parts(log: &[u8], v: View, operator: Operator, sets: &[Bits]) -> Bits
-    requires { ⌜ Given (logSound 1 (now log)) × (length (now sets) ≤ codeCount) ⌝ }
-    ensures { λ r. ⌜ ((k : ℕ) → k < length (now (sets .entry)) → has r k ≡ partSight (opOf operator) (partAt (now (sets .entry)) k) (logEpisodes 1 (now (log .entry))) (sight v) .bare) ⌝ }
+pub fn missed_parts(
+    log: &[u8],
+    places: &[u8],
+    w: usize,
+    v: View,
+    operator: Operator,
+    sets: &[Bits],
+) -> Bits
+    requires { ⌜ Listed w (now log) (now places) × (length (now sets) ≤ codeCount) ⌝ }
+    ensures { λ r. ⌜ ((k : ℕ) → k < length (now (sets .entry)) → has r k ≡ partSight (opOf operator) (partAt (now (sets .entry)) k) (episodesOf w (now (log .entry)) (now (places .entry))) (sight v) .bare) ⌝ }
 {
     match operator {
         Operator::Choice => 0,
-        Operator::Sequence => missed_of(log, v, sets),
-        Operator::Parallel => missed_of(log, v, sets),
+        Operator::Sequence => missed_of(log, places, w, v, sets),
+        Operator::Parallel => missed_of(log, places, w, v, sets),
         Operator::Loop => 0,
     }
 }

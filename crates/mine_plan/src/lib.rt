@@ -9,11 +9,10 @@ use rules::CODE_COUNT;
 use rules::Operator;
 ghost use mathlib.Core.Path.{_≡_};
 ghost use Prim.Native.Nat.{_≤_};
-ghost use Rattle.rules.specs.Refusals.{Given};
-ghost use Rattle.rules.specs.LogBlock.{logEpisodes};
-ghost use Rattle.rules.specs.Calls.{logSound, codeCount};
+ghost use Rattle.rules.specs.Calls.{codeCount};
 ghost use Rattle.code_sets.specs.Bits.{listed};
 ghost use Rattle.graph_rows.specs.Edges.{edgeOf};
+ghost use Rattle.mine_places.specs.Places.{episodesOf, Listed};
 ghost use Rattle.mine_plan.specs.Plans.{lone, CutPlan, Planned};
 
 // What has no cut.
@@ -31,7 +30,7 @@ pub enum Made {
 // A cut's parts are the first n sets; `missed` has the numbers of those whose views have the empty episode.
 pub struct Plan {
     pub made: Made,
-    pub n: usize,
+    pub n: u8,
     pub sets: [Bits; CODE_COUNT],
     pub missed: Bits,
 }
@@ -62,25 +61,26 @@ fn uncut(base: Base) -> Plan
 }
 
 // A cut as a plan: the parts that a sub-episode lacks are looked for.
-fn cut_plan(log: &[u8], v: View, operator: Operator, parts: Parts) -> Plan
-    requires { ⌜ Given (logSound 1 (now log)) × (parts .n ≤ codeCount) ⌝ }
-    ensures { λ r. ⌜ CutPlan (logEpisodes 1 (now (log .entry))) v operator parts r ⌝ }
+fn cut_plan(log: &[u8], places: &[u8], w: usize, v: View, operator: Operator, parts: Parts) -> Plan
+    requires { ⌜ Listed w (now log) (now places) × (parts .n ≤ codeCount) ⌝ }
+    ensures { λ r. ⌜ CutPlan (episodesOf w (now (log .entry)) (now (places .entry))) v operator parts r ⌝ }
 {
     let n = parts.n;
     let sets = parts.sets;
-    let missed = mine_missed::missed_parts(log, v, operator, &sets[0..n]);
+    let missed = mine_missed::missed_parts(log, places, w, v, operator, &sets[0..n]);
+    let count = n as u8;
     Plan {
         made: Made::Cut(operator),
-        n,
+        n: count,
         sets,
         missed,
     }
 }
 
 // What is made of a view's sublog.
-pub fn planned(log: &[u8], v: View) -> Plan
-    requires { ⌜ Given (logSound 1 (now log)) ⌝ }
-    ensures { λ r. ⌜ Planned (logEpisodes 1 (now (log .entry))) v r ⌝ }
+pub fn planned(log: &[u8], places: &[u8], w: usize, v: View) -> Plan
+    requires { ⌜ Listed w (now log) (now places) ⌝ }
+    ensures { λ r. ⌜ Planned (episodesOf w (now (log .entry)) (now (places .entry))) v r ⌝ }
 {
     let keep = v.keep;
     let bare = v.bare;
@@ -90,7 +90,7 @@ pub fn planned(log: &[u8], v: View) -> Plan
     if bare {
         return uncut(Base::Flower);
     }
-    let g = mine_graph::graph_of(log, v);
+    let g = mine_graph::graph_of(log, places, w, v);
     if alone(g, keep) {
         return uncut(Base::Leaf);
     }
@@ -99,6 +99,6 @@ pub fn planned(log: &[u8], v: View) -> Plan
     let parts = cut.parts;
     match found {
         Found::Nothing => uncut(Base::Flower),
-        Found::By(operator) => cut_plan(log, v, operator, parts),
+        Found::By(operator) => cut_plan(log, places, w, v, operator, parts),
     }
 }

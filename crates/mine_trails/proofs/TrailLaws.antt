@@ -3,12 +3,12 @@ use mathlib.Core.Path.{_≡_, refl, sym, _∙_, ap}
 use mathlib.Core.Logic.{_⊎_, inl, inr}
 use mathlib.Core.List.{List, [], _∷_, _++_}
 use mathlib.Core.Bool.{Bool, true, false, _&&_, _||_}
-use Prim.Native.Nat.{ℕ, _%_, _^_, _<_, _≤_}
+use Prim.Native.Nat.{ℕ, _%_, _<_, _≤_}
 use native.Mathlib.Nat.{mod-eq-of-lt}
 use lib.Dec.{eqb, ltb}
 use lib.ListN.{getD}
 use borrow.Author.Tests.{lt-ltb, le-ltb, eqb-true}
-use Rattle.rules.specs.Words.{pick, any}
+use Rattle.rules.specs.Words.{any}
 use Rattle.rules.specs.Mining as mining
 use Rattle.rules.specs.Mining.{Episode, Log, follows, startsWith, endsWith}
 use Rattle.rules.specs.Calls.{codeCount}
@@ -19,9 +19,7 @@ use Rattle.code_sets.proofs.BitLaws.{lt-or-le}
 use Rattle.graph_rows.specs.Edges.{edgeOf, meant, Bare, Noted, Started, Ended}
 use Rattle.graph_rows.specs.declared.Graph.{Graph}
 use Rattle.mine_views.specs.Sublogs.{Walk, stepBy, done, Sight, emptyIf, piecesOf, shown, drawn}
-use Rattle.mine_trails.specs.declared.Trail.{Trail}
-use Rattle.mine_trails.specs.Growing.{joined, withPieces, resumed, trailed, addsNothing, lastAfter}
-use Rattle.mine_views.proofs.SetLaws.{has-below}
+use Rattle.mine_trails.specs.Growing.{Trail, joined, withPieces, resumed, trail, trailed, addsNothing, lastAfter}
 
 -- ---- joining logs to a graph
 
@@ -83,46 +81,44 @@ module _ (g h : Graph) (last c kept : ℕ) (w : Walk) where
       resumed (ltb c codeCount) c w (meant h kept) ≡ resumed (ltb last codeCount) last (c ∷ w .0, w .1) (meant g kept)
   unfolding resumed meant
   event-on l s n =
-      ap (λ (t : Bool). resumed t c w (meant h kept)) (lt-ltb c codeCount s)
-      ∙ (λ i.
+      rw (lt-ltb c codeCount s, lt-ltb last codeCount l)
+      (λ i.
       record {
         codes = listed codeCount kept;
         edge = λ a b. edges a b i;
         start = λ a. has (n .starts i .bits) a || any (startsWith a) (w .1);
         end = λ a. has (n .ends i .bits) a || any (endsWith a) ((c ∷ w .0) ∷ w .1);
       })
-      ∙ ap (λ (t : Bool). resumed t last (c ∷ w .0, w .1) (meant g kept)) (sym (lt-ltb last codeCount l))
     where
       edges : (a b : ℕ) → (edgeOf (h .rows) a b || any (follows a b) ((c ∷ w .0) ∷ w .1)) ≡ (edgeOf (g .rows) a b || any (follows a b) ((last ∷ c ∷ w .0) ∷ w .1))
       edges a b =
           ap (λ (t : Bool). t || any (follows a b) ((c ∷ w .0) ∷ w .1))
-          (n .edges a b ∙ ap (λ (t : Bool). edgeOf (g .rows) a b || (t && ltb c codeCount && eqb a last && eqb b c)) (lt-ltb last codeCount l)
-          ∙ ap (λ (t : Bool). edgeOf (g .rows) a b || (t && eqb a last && eqb b c)) (lt-ltb c codeCount s))
+          (rw (lt-ltb last codeCount l, lt-ltb c codeCount s) at (n .edges a b))
           ∙ regroup (edgeOf (g .rows) a b) (eqb a last && eqb b c) (follows a b (c ∷ w .0)) (any (follows a b) (w .1))
 
   pub event-first : codeCount ≤ last → c < codeCount → Started g c h →
       resumed (ltb c codeCount) c w (meant h kept) ≡ resumed (ltb last codeCount) last (c ∷ w .0, w .1) (meant g kept)
   unfolding resumed meant joined
   event-first l s n =
-      ap (λ (t : Bool). resumed t c w (meant h kept)) (lt-ltb c codeCount s)
-      ∙ (λ i.
+      rw (lt-ltb c codeCount s, le-ltb last codeCount l)
+      (λ i.
       record {
         codes = listed codeCount kept;
         edge = λ a b. edgeOf (n .edges i) a b || any (follows a b) ((c ∷ w .0) ∷ w .1);
         start = λ a. starts a i;
         end = λ a. has (n .ends i .bits) a || any (endsWith a) ((c ∷ w .0) ∷ w .1);
       })
-      ∙ ap (λ (t : Bool). resumed t last (c ∷ w .0, w .1) (meant g kept)) (sym (le-ltb last codeCount l))
     where
       starts : (a : ℕ) → (has (h .starts .bits) a || any (startsWith a) (w .1)) ≡ (has (g .starts .bits) a || any (startsWith a) ((c ∷ w .0) ∷ w .1))
       starts a =
-          ap (λ (t : Bool). t || any (startsWith a) (w .1)) (n .starts a ∙ ap (λ (t : Bool). has (g .starts .bits) a || (t && eqb a c)) (lt-ltb c codeCount s))
+          ap (λ (t : Bool). t || any (startsWith a) (w .1)) (rw (lt-ltb c codeCount s) at (n .starts a))
           ∙ or-assoc (has (g .starts .bits) a) (eqb a c) (any (startsWith a) (w .1))
 
 module _ (g h : Graph) (last kept : ℕ) (w : Walk) where
   pub stop-open : last < codeCount → Ended g last h → joined (meant h kept) (done w) ≡ resumed (ltb last codeCount) last ([], done w) (meant g kept)
   unfolding resumed meant joined
   stop-open l n =
+      rw (lt-ltb last codeCount l)
       (λ i.
       record {
         codes = listed codeCount kept;
@@ -130,34 +126,42 @@ module _ (g h : Graph) (last kept : ℕ) (w : Walk) where
         start = λ a. has (n .starts i .bits) a || any (startsWith a) (done w);
         end = λ a. ends a i;
       })
-      ∙ ap (λ (t : Bool). resumed t last ([], done w) (meant g kept)) (sym (lt-ltb last codeCount l))
     where
       ends : (a : ℕ) → (has (h .ends .bits) a || any (endsWith a) (done w)) ≡ (has (g .ends .bits) a || any (endsWith a) ((last ∷ []) ∷ done w))
       ends a =
-          ap (λ (t : Bool). t || any (endsWith a) (done w)) (n .ends a ∙ ap (λ (t : Bool). has (g .ends .bits) a || (t && eqb a last)) (lt-ltb last codeCount l))
+          ap (λ (t : Bool). t || any (endsWith a) (done w)) (rw (lt-ltb last codeCount l) at (n .ends a))
           ∙ or-assoc (has (g .ends .bits) a) (eqb a last) (any (endsWith a) (done w))
 
   pub stop-closed : codeCount ≤ last → joined (meant g kept) (done w) ≡ resumed (ltb last codeCount) last ([], done w) (meant g kept)
   unfolding resumed
-  stop-closed l = ap (λ (t : Bool). resumed t last ([], done w) (meant g kept)) (sym (le-ltb last codeCount l))
+  stop-closed l = rw (le-ltb last codeCount l)
 
--- a code by what the sets say of it
-module _ (s : Trail) (k b x kept : ℕ) (w : Walk) (t : Bool) (call : t ≡ has k x) where
-  pub step-event : k < 2 ^ codeCount → t ≡ true → (r : Trail) → (x < codeCount → (n : ℕ) (u : Walk) → trailed r n u ≡ trailed s n (stepBy true true x u)) →
-      trailed r kept w ≡ trailed s kept (stepBy (has k x) (has b x) x w)
-  step-event small taken r e =
-      let on : has k x ≡ true = sym call ∙ taken in
-      e (has-below codeCount k x small on) kept w ∙ ap (λ (p : Bool). trailed s kept (stepBy p (has b x) x w)) (sym on)
+-- what one more code x gives: a trail that the rest of the walk finds as it finds the one before x
+abbrev pub Turn : Trail → ℕ → ℕ → ℕ → Trail → Type 0
+Turn s k b x r = (kept : ℕ) (w : Walk) → trailed r kept w ≡ trailed s kept (stepBy (has k x) (has b x) x w)
 
-  module _ (no : t ≡ false) (u : Bool) (told : u ≡ has b x) where
-    pub step-stop : u ≡ true → (h : Graph) → ((n : ℕ) (v : Walk) → joined (meant h n) (done v) ≡ trailed s n ([], done v)) →
-        resumed false codeCount w (meant h kept) ≡ trailed s kept (stepBy (has k x) (has b x) x w)
-    unfolding resumed
-    step-stop taken h e =
-        e kept w ∙ (λ i. trailed s kept (stepBy (sym (sym call ∙ no) i) (sym (sym told ∙ taken) i) x w))
+-- what an event or a break x gives, whatever the breaks are: a graph r with the last code that follows
+abbrev pub Grown : Graph → ℕ → ℕ → ℕ → Graph → Type 0
+Grown g last k x r = (kept : ℕ) (w : Walk) → trailed (trail r (lastAfter (has k x) x)) kept w ≡ trailed (trail g last) kept (stepBy (has k x) true x w)
 
-    pub step-pass : u ≡ false → trailed s kept w ≡ trailed s kept (stepBy (has k x) (has b x) x w)
-    step-pass off = λ i. trailed s kept (stepBy (sym (sym call ∙ no) i) (sym (sym told ∙ off) i) x w)
+module _ (g r : Graph) (last k x : ℕ) (t : Bool) (call : t ≡ has k x) where
+  pub grown-pair : t ≡ true → x < codeCount → last < codeCount → Noted g last x r → Grown g last k x r
+  grown-pair on below l n kept w = rw (sym call ∙ on) (event-on g r last x kept w l below n)
+
+  pub grown-start : t ≡ true → x < codeCount → codeCount ≤ last → Started g x r → Grown g last k x r
+  grown-start on below l n kept w = rw (sym call ∙ on) (event-first g r last x kept w l below n)
+
+  pub grown-end : t ≡ false → ((n : ℕ) (v : Walk) → joined (meant r n) (done v) ≡ trailed (trail g last) n ([], done v)) → Grown g last k x r
+  unfolding resumed
+  grown-end off e kept w = rw (sym call ∙ off) (e kept w)
+
+-- a code that is no event and yet watched is a break
+step-watched : (event stop : Bool) → (event || stop) ≡ true → (x : ℕ) (w : Walk) → stepBy event true x w ≡ stepBy event stop x w
+step-watched true stop on x w = refl
+step-watched false stop on x w = ap (λ (t : Bool). stepBy false t x w) (sym on)
+
+pub turn-grown : (s : Trail) (k b x : ℕ) (t : Bool) → t ≡ (has k x || has b x) → t ≡ true → (r : Graph) → Grown (s .graph) (s .last) k x r → Turn s k b x (trail r (lastAfter (has k x) x))
+turn-grown s k b x t seen on r e kept w = e kept w ∙ ap (trailed s kept) (step-watched (has k x) (has b x) (sym seen ∙ on) x w)
 
 -- ---- a code that adds nothing
 
@@ -167,11 +171,8 @@ again true p h = refl
 again false true h = h refl
 again false false h = refl
 
-edge-is : (g : Graph) (a b : ℕ) → edgeOf (g .rows) a b ≡ has (getD (g .rows) a 0) b
+noted-again : (g : Graph) (a b : ℕ) → has (getD (g .rows) a 0) b ≡ true → Noted g a b g
 unfolding edgeOf
-edge-is g a b = refl
-
-noted-again : (g : Graph) (a b : ℕ) → edgeOf (g .rows) a b ≡ true → Noted g a b g
 noted-again g a b h =
     record {
       edges =
@@ -187,76 +188,61 @@ marked-again : (x a : ℕ) → has x a ≡ true → (i : ℕ) → has x i ≡ (h
 marked-again x a h i =
     again (has x i) (ltb a codeCount && eqb i a) (λ e. ap (has x) (eqb-true i a (and-cases (ltb a codeCount) (eqb i a) e .1)) ∙ h)
 
--- what a turn of the loop over codes gives: the graph and the last code after the code x
-abbrev pub Turn : Graph → ℕ → ℕ → ℕ → ℕ → Graph → ℕ → Type 0
-Turn g last k b x h next =
-    (kept : ℕ) (w : Walk) → trailed (record { graph = h; last = next }) kept w ≡ trailed (record { graph = g; last = last }) kept (stepBy (has k x) (has b x) x w)
+-- an end that is noted already, or none where no sub-episode is open
+pub end-again : (s : Trail) → (s .last < codeCount → has (s .graph .ends .bits) (s .last) ≡ true) → (kept : ℕ) (w : Walk) → joined (meant (s .graph) kept) (done w) ≡ trailed s kept ([], done w)
+end-again s noted kept w = by (lt-or-le (s .last) codeCount)
+  where
+    by : (s .last < codeCount) ⊎ (codeCount ≤ s .last) → joined (meant (s .graph) kept) (done w) ≡ trailed s kept ([], done w)
+    by (inl l) = stop-open (s .graph) (s .graph) (s .last) kept w l (record { edges = refl; starts = refl; ends = marked-again (s .graph .ends .bits) (s .last) (noted l) })
+    by (inr l) = stop-closed (s .graph) (s .graph) (s .last) kept w l
 
-module _ (g : Graph) (last k b x : ℕ) where
-  pub noted-break : has k x ≡ false → has b x ≡ true → addsNothing k (getD (g .rows) (last % codeCount) 0) (g .starts .bits) (g .ends .bits) last x ≡ true → Turn g last k b x g codeCount
+-- an event is there already: its pair, or its start where no sub-episode is open
+abbrev pub There : Trail → ℕ → Type 0
+There s x = ((s .last < codeCount) × (has (getD (s .graph .rows) (s .last) 0) x ≡ true)) ⊎ ((codeCount ≤ s .last) × (has (s .graph .starts .bits) x ≡ true))
+
+module _ (s : Trail) (k b x : ℕ) where
+  pub noted-break : has k x ≡ false → has b x ≡ true → (s .last < codeCount → has (s .graph .ends .bits) (s .last) ≡ true) → Turn s k b x (trail (s .graph) codeCount)
   unfolding resumed
-  noted-break off at h kept w = by (lt-or-le last codeCount) ∙ (λ i. trailed (record { graph = g; last = last }) kept (stepBy (sym off i) (sym at i) x w))
-    where
-      by : (last < codeCount) ⊎ (codeCount ≤ last) → joined (meant g kept) (done w) ≡ resumed (ltb last codeCount) last ([], done w) (meant g kept)
-      by (inl l) =
-          stop-open g g last kept w l (record { edges = refl; starts = refl; ends = marked-again (g .ends .bits) last (rw (off, lt-ltb last codeCount l) at h) })
-      by (inr l) = stop-closed g g last kept w l
+  noted-break off at noted kept w = rw (off, at) (end-again s noted kept w)
 
-module _ (g : Graph) (last k b x : ℕ) (small : k < 2 ^ codeCount) where
-  pub noted-event : has k x ≡ true → addsNothing k (getD (g .rows) (last % codeCount) 0) (g .starts .bits) (g .ends .bits) last x ≡ true → Turn g last k b x g x
-  noted-event on h kept w = by (lt-or-le last codeCount) ∙ ap (λ (p : Bool). trailed (record { graph = g; last = last }) kept (stepBy p (has b x) x w)) (sym on)
-    where
-      inside : x < codeCount
-      inside = has-below codeCount k x small on
+  -- the same trail by another way
+  pub turn-is : (r q : Trail) → q .graph ≡ r .graph → q .last ≡ r .last → Turn s k b x r → Turn s k b x q
+  turn-is r q e f t kept w = (λ i. trailed (trail (e i) (f i)) kept w) ∙ t kept w
 
-      by : (last < codeCount) ⊎ (codeCount ≤ last) → resumed (ltb x codeCount) x w (meant g kept) ≡ resumed (ltb last codeCount) last (x ∷ w .0, w .1) (meant g kept)
-      by (inl l) =
-          let there : has (getD (g .rows) (last % codeCount) 0) x ≡ true = rw (on, lt-ltb last codeCount l) at h in
-          event-on g g last x kept w l inside (noted-again g last x (edge-is g last x ∙ ap (λ (n : ℕ). has (getD (g .rows) n 0) x) (sym (mod-eq-of-lt l)) ∙ there))
-      by (inr l) =
-          event-first g g last x kept w l inside
-          (record { edges = refl; starts = marked-again (g .starts .bits) x (rw (on, le-ltb last codeCount l) at h); ends = refl })
+  pub turn-pass : (t : Bool) → t ≡ (has k x || has b x) → t ≡ false → Turn s k b x s
+  turn-pass t seen off kept w = let none = or-none (has k x) (has b x) (sym seen ∙ off) in rw (none .0, none .1)
 
-  pub turn-noted : (t : Bool) → t ≡ (has k x || has b x) → t ≡ true → (u : Bool) → u ≡ addsNothing k (getD (g .rows) (last % codeCount) 0) (g .starts .bits) (g .ends .bits) last x → u ≡ true →
-      (h : Graph) (next : ℕ) → h ≡ g → next ≡ lastAfter (has k x) x → Turn g last k b x h next
-  turn-noted t p on u q holds h next same e = λ kept w. (λ i. trailed (record { graph = same i; last = e i }) kept w) ∙ by (bool-cases (has k x)) kept w
-    where
-      by : (has k x ≡ true) ⊎ (has k x ≡ false) → Turn g last k b x g (lastAfter (has k x) x)
-      by (inl y) = λ kept w. ap (λ (v : Bool). trailed (record { graph = g; last = lastAfter v x }) kept w) y ∙ noted-event y (sym q ∙ holds) kept w
-      by (inr n) =
-          let at : has b x ≡ true = rw n at (sym p ∙ on) in
-          λ kept w. ap (λ (v : Bool). trailed (record { graph = g; last = lastAfter v x }) kept w) n ∙ noted-break g last k b x n at (sym q ∙ holds) kept w
+  module _ (below : x < codeCount) where
+    pub noted-event : has k x ≡ true → There s x → Turn s k b x (trail (s .graph) x)
+    noted-event on (inl p) kept w = rw on (event-on (s .graph) (s .graph) (s .last) x kept w (p .0) below (noted-again (s .graph) (s .last) x (p .1)))
+    noted-event on (inr p) kept w =
+        rw on (event-first (s .graph) (s .graph) (s .last) x kept w (p .0) below (record { edges = refl; starts = marked-again (s .graph .starts .bits) x (p .1); ends = refl }))
 
-  pub turn-pass : (t : Bool) → t ≡ (has k x || has b x) → t ≡ false → (h : Graph) (next : ℕ) → h ≡ g → next ≡ last → Turn g last k b x h next
-  turn-pass t p off h next same e =
-      let none = or-none (has k x) (has b x) (sym p ∙ off) in
-      λ kept w.
-      (λ i. trailed (record { graph = same i; last = e i }) kept w)
-      ∙ (λ i. trailed (record { graph = g; last = last }) kept (stepBy (sym (none .0) i) (sym (none .1) i) x w))
+    pub turn-noted : (t : Bool) → t ≡ (has k x || has b x) → t ≡ true →
+        (u : Bool) → u ≡ addsNothing k (getD (s .graph .rows) (s .last % codeCount) 0) (s .graph .starts .bits) (s .graph .ends .bits) (s .last) x → u ≡ true →
+        Turn s k b x (trail (s .graph) (lastAfter (has k x) x))
+    turn-noted t seen on u told nothing = by (bool-cases (has k x))
+      where
+        there : has k x ≡ true → (s .last < codeCount) ⊎ (codeCount ≤ s .last) → There s x
+        there y (inl l) = inl (l, rw (y, lt-ltb (s .last) codeCount l, mod-eq-of-lt l) at (sym told ∙ nothing))
+        there y (inr l) = inr (l, rw (y, le-ltb (s .last) codeCount l) at (sym told ∙ nothing))
 
-  pub turn-step : (r : Trail) → ((kept : ℕ) (w : Walk) → trailed r kept w ≡ trailed (record { graph = g; last = last }) kept (stepBy (has k x) (has b x) x w)) →
-      (h : Graph) (next : ℕ) → h ≡ r .graph → next ≡ r .last → Turn g last k b x h next
-  turn-step r s h next same e = λ kept w. (λ i. trailed (record { graph = same i; last = e i }) kept w) ∙ s kept w
+        by : (has k x ≡ true) ⊎ (has k x ≡ false) → Turn s k b x (trail (s .graph) (lastAfter (has k x) x))
+        by (inl y) kept w = ap (λ (v : Bool). trailed (trail (s .graph) (lastAfter v x)) kept w) y ∙ noted-event y (there y (lt-or-le (s .last) codeCount)) kept w
+        by (inr n) kept w =
+            ap (λ (v : Bool). trailed (trail (s .graph) (lastAfter v x)) kept w) n
+            ∙ noted-break n (rw n at (sym seen ∙ on)) (λ l. rw (n, lt-ltb (s .last) codeCount l) at (sym told ∙ nothing)) kept w
 
 -- the test for it, branch by branch
 module _ (kept row starts ends last c : ℕ) (t : Bool) (call : t ≡ has kept c) where
   pub nothing-pair : t ≡ true → last < codeCount → (r : Bool) → r ≡ has row c → r ≡ addsNothing kept row starts ends last c
-  nothing-pair on l r e = e ∙ sym (rw (sym call ∙ on, lt-ltb last codeCount l) refl)
+  nothing-pair on l r e = rw (sym call ∙ on, lt-ltb last codeCount l) e
 
   pub nothing-start : t ≡ true → codeCount ≤ last → (r : Bool) → r ≡ has starts c → r ≡ addsNothing kept row starts ends last c
-  nothing-start on l r e = e ∙ sym (rw (sym call ∙ on, le-ltb last codeCount l) refl)
+  nothing-start on l r e = rw (sym call ∙ on, le-ltb last codeCount l) e
 
   pub nothing-end : t ≡ false → last < codeCount → (r : Bool) → r ≡ has ends last → r ≡ addsNothing kept row starts ends last c
-  nothing-end off l r e = e ∙ sym (rw (sym call ∙ off, lt-ltb last codeCount l) refl)
+  nothing-end off l r e = rw (sym call ∙ off, lt-ltb last codeCount l) e
 
   pub nothing-open : t ≡ false → codeCount ≤ last → true ≡ addsNothing kept row starts ends last c
-  nothing-open off l = sym (rw (sym call ∙ off, le-ltb last codeCount l) refl)
-
--- an end that is noted already, or none where no sub-episode is open
-pub end-again : (g : Graph) (last kept : ℕ) (w : Walk) → pick (ltb last codeCount) (has (g .ends .bits) last) true ≡ true → joined (meant g kept) (done w) ≡ trailed (record { graph = g; last = last }) kept ([], done w)
-end-again g last kept w h = by (lt-or-le last codeCount)
-  where
-    by : (last < codeCount) ⊎ (codeCount ≤ last) → joined (meant g kept) (done w) ≡ resumed (ltb last codeCount) last ([], done w) (meant g kept)
-    by (inl l) =
-        stop-open g g last kept w l (record { edges = refl; starts = refl; ends = marked-again (g .ends .bits) last (rw (lt-ltb last codeCount l) at h) })
-    by (inr l) = stop-closed g g last kept w l
+  nothing-open off l = rw (sym call ∙ off, le-ltb last codeCount l)

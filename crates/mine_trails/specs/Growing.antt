@@ -12,7 +12,6 @@ use Rattle.code_sets.specs.declared.CodeSet.{CodeSet}
 use Rattle.graph_rows.specs.declared.Graph.{Graph}
 use Rattle.graph_rows.specs.Edges.{meant}
 use Rattle.mine_views.specs.Sublogs.{Walk, done, Sight, piecesOf}
-use Rattle.mine_trails.specs.declared.Trail.{Trail}
 
 -- a graph with a log's pairs, starts and ends besides its own
 unfoldable pub joined : mining.Graph → Log → mining.Graph
@@ -39,6 +38,14 @@ resumed true last w g =
       start = λ a. g .start a || any (startsWith a) (w .1);
       end = λ a. g .end a || any (endsWith a) ((last ∷ w .0) ∷ w .1);
     }
+
+-- a graph while an episode is walked: the last code of the open sub-episode, no code where none is open
+pub record Trail : Type 0 where
+  pub graph : Graph
+  pub last : ℕ
+
+abbrev pub trail : Graph → ℕ → Trail
+trail g last = record { graph = g; last = last }
 
 abbrev pub trailed : Trail → ℕ → Walk → mining.Graph
 trailed t kept w = resumed (ltb (t .last) codeCount) (t .last) w (meant (t .graph) kept)

@@ -1,6 +1,6 @@
 pub mod SetLaws
 pub mod WalkLaws
 pub mod PartLaws
-pub mod PassLaws
+pub mod PieceLaws
 pub mod TightLaws
 pub mod OperatorLaws

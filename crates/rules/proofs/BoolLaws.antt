@@ -45,6 +45,17 @@ pub or-off : (b : Bool) → (b || false) ≡ b
 or-off true = refl
 or-off false = refl
 
+-- more is asked behind a test: no more, and more twice
+pub more-none : (t s : Bool) → (t || (s && false)) ≡ t
+more-none true s = refl
+more-none false true = refl
+more-none false false = refl
+
+pub more-twice : (t s x y : Bool) → ((t || (s && x)) || (s && y)) ≡ (t || (s && (x || y)))
+more-twice true s x y = refl
+more-twice false true x y = refl
+more-twice false false x y = refl
+
 pub or-comm : (a b : Bool) → (a || b) ≡ (b || a)
 or-comm true true = refl
 or-comm true false = refl

@@ -2,8 +2,9 @@
 
 use super::codes::{each, Codes};
 use super::cuts::{first_cut, Cut, CHOICE, LOOP};
-use super::log::{sum_of, summary_of};
-use super::view::{graph_of, parts_missed, View};
+use super::gather::{gather, Episodes};
+use super::log::{check_log, sum_of};
+use super::view::{graph_of, parts_missed, root_of, View};
 use crate::answer::{refuse, Answer};
 use crate::calls::MINING_WORK;
 
@@ -12,12 +13,12 @@ pub fn mine(log: &[u8], out: &mut [u8], work: &mut [u8]) -> Answer<usize> {
         return refuse(1, 0);
     }
     let Some(out) = out.first_chunk_mut::<512>() else { return refuse(2, 0) };
-    let Some(work) = work.get_mut(..MINING_WORK) else { return refuse(3, 0) };
-    let summary = summary_of(log)?;
+    let Some(work) = work.first_chunk_mut::<MINING_WORK>() else { return refuse(3, 0) };
+    check_log(log)?;
     out.fill(0);
-    let root = View { keep: summary.codes, breaks: 0, empty_episode: summary.empty_episode };
-    let mut miner = Miner { log, out, nodes: 0 };
-    miner.grow(root);
+    let episodes = gather(log, work);
+    let mut miner = Miner { episodes, out, nodes: 0 };
+    miner.grow(root_of(episodes));
     let nodes = miner.nodes;
     let sum = sum_of(out);
     out[508..].copy_from_slice(&sum.to_le_bytes());
@@ -33,7 +34,7 @@ enum Step {
 }
 
 struct Miner<'a> {
-    log: &'a [u8],
+    episodes: Episodes<'a>,
     out: &'a mut [u8; 512],
     nodes: usize,
 }
@@ -48,7 +49,7 @@ impl Miner<'_> {
 
     /// Writes the subtree of a view behind the entries already there.
     fn grow(&mut self, view: View) {
-        match step(self.log, view) {
+        match step(self.episodes, view) {
             Step::Silent => {
                 self.push(1, 0);
             }
@@ -83,22 +84,22 @@ fn part_view(view: View, kind: u8, part: Codes, missed: bool) -> View {
     View { keep: part, breaks: view.breaks | others, empty_episode: missed }
 }
 
-/// Looks at a view's log once or twice. Kept out of line: its tables must not stay on the stack below it.
+/// Goes over the episodes once or twice. Kept out of line: its tables must not stay on the stack below it.
 #[inline(never)]
-fn step(log: &[u8], view: View) -> Step {
+fn step(episodes: Episodes, view: View) -> Step {
     if view.keep == 0 {
         return Step::Silent;
     }
     if view.empty_episode {
         return Step::Flower;
     }
-    let graph = graph_of(log, view);
+    let graph = graph_of(episodes, view);
     if view.keep.is_power_of_two() {
         let code = view.keep.trailing_zeros();
         return if graph.rows[code as usize] == 0 { Step::Leaf(code as u8) } else { Step::Flower };
     }
     let Some(cut) = first_cut(&graph, view.keep) else { return Step::Flower };
     let projects = cut.kind != CHOICE && cut.kind != LOOP;
-    let missed = if projects { parts_missed(log, view, cut.parts()) } else { 0 };
+    let missed = if projects { parts_missed(episodes, view, cut.parts()) } else { 0 };
     Step::Parts(cut, missed)
 }

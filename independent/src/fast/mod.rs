@@ -1,8 +1,9 @@
-//! The same calls made for speed: sublogs are views over the log, sets of codes are 32 bits, judging goes by rows of
-//! places. Nothing is proved of it and nothing is allocated; it is what the proved library is measured against.
+//! The same calls made for speed: sublogs are views over the log's distinct episodes, sets of codes are 32 bits, judging goes
+//! by rows of places. Nothing is proved of it and nothing is allocated; it is what the proved library is measured against.
 
 mod codes;
 mod cuts;
+mod gather;
 mod judge;
 mod log;
 mod mine;
@@ -11,6 +12,7 @@ mod view;
 
 use crate::answer::packed;
 use crate::calls::Gateway;
+pub use gather::{number_of, SLOTS};
 
 pub struct Fast;
 

@@ -1,7 +1,7 @@
-//! The sublog of a part as a view over the whole log: nothing is copied, each question is one pass.
+//! The sublog of a part as a view over the listed episodes: nothing is copied, each question is one pass.
 
 use super::codes::{bit, Codes};
-use super::log::blocks;
+use super::gather::Episodes;
 
 /// The episodes of a view are what its breaks leave of each record, other codes than the kept ones passed over.
 #[derive(Clone, Copy)]
@@ -18,26 +18,24 @@ pub struct Graph {
     pub ends: Codes,
 }
 
-/// Every record's codes, of a log that was checked.
-fn each_record(log: &[u8], mut visit: impl FnMut(&[u8])) {
-    for block in blocks(log) {
-        let mut at = 1;
-        for _ in 0..block[0] {
-            let next = at + 1 + block[at] as usize;
-            visit(&block[at + 1..next]);
-            at = next;
-        }
+/// The view that keeps every code.
+pub fn root_of(episodes: Episodes) -> View {
+    let mut view = View { keep: 0, breaks: 0, empty_episode: false };
+    for codes in episodes.each() {
+        view.keep |= codes.iter().fold(0, |set, &code| set | bit(code));
+        view.empty_episode |= codes.is_empty();
     }
+    view
 }
 
 /// Stands for no code before the first event of an episode.
 const NONE: u8 = 32;
 
-pub fn graph_of(log: &[u8], view: View) -> Graph {
+pub fn graph_of(episodes: Episodes, view: View) -> Graph {
     // Row 32 takes the pairs of no code and a first one: these are the starts.
     let mut rows = [0; 33];
     let mut ends = 0;
-    each_record(log, |codes| {
+    for codes in episodes.each() {
         let mut last = NONE;
         for &code in codes {
             if view.keep & bit(code) != 0 {
@@ -51,7 +49,7 @@ pub fn graph_of(log: &[u8], view: View) -> Graph {
         if last != NONE {
             ends |= bit(last);
         }
-    });
+    }
     let starts = rows[NONE as usize];
     let mut graph = Graph { rows: [0; 32], starts, ends };
     graph.rows.copy_from_slice(&rows[..32]);
@@ -59,7 +57,7 @@ pub fn graph_of(log: &[u8], view: View) -> Graph {
 }
 
 /// Which of the parts, by number, some episode of the view has no event of.
-pub fn parts_missed(log: &[u8], view: View, parts: &[Codes]) -> u32 {
+pub fn parts_missed(episodes: Episodes, view: View, parts: &[Codes]) -> u32 {
     let mut missed = 0;
     let mut close = |seen: Codes| {
         if seen != 0 && seen != view.keep {
@@ -68,7 +66,7 @@ pub fn parts_missed(log: &[u8], view: View, parts: &[Codes]) -> u32 {
             }
         }
     };
-    each_record(log, |codes| {
+    for codes in episodes.each() {
         let mut seen = 0;
         for &code in codes {
             if view.breaks & bit(code) != 0 {
@@ -78,6 +76,6 @@ pub fn parts_missed(log: &[u8], view: View, parts: &[Codes]) -> u32 {
             seen |= bit(code) & view.keep;
         }
         close(seen);
-    });
+    }
     missed
 }

@@ -1,10 +1,14 @@
-//! The largest inputs of several shapes: full logs with all 32 codes, and 63-event episodes on 127-node trees; and blocks that
-//! are no trees, nested as deep as they can be.
+//! The largest inputs of several shapes: full logs, with all 32 codes or with many records, and 63-event episodes on 127-node
+//! trees; and blocks that are no trees, nested as deep as they can be.
 
+use super::distinct::{
+    crowd, every_episode, first_fit, grouped_episodes, log_without_repeats, most_episodes, repeating_log,
+};
 use super::logs::largest_log;
 use super::random::Random;
 use super::trees::short_episode;
 use crate::block::{write_check, BLOCK};
+use crate::fast::number_of;
 use crate::log::{Episode, LONGEST_EPISODE};
 use crate::tree::{Operator, Tree};
 use Operator::{Choice, Loop, Parallel, Sequence};
@@ -17,7 +21,7 @@ pub enum Task {
 type Shape = (&'static str, fn() -> Task);
 
 /// The names of all shapes and how to make each.
-pub const SHAPES: [Shape; 20] = [
+pub const SHAPES: [Shape; 27] = [
     ("mine-balanced", || logs_of(balanced(Sequence, Choice, leaves()), Events::Doubled, 8)),
     ("mine-balanced-parallel", || logs_of(balanced(Choice, Parallel, leaves()), Events::Doubled, 8)),
     ("mine-sequence-loop-comb", || logs_of(sequence_loop_comb(), Events::Doubled, 10)),
@@ -29,6 +33,13 @@ pub const SHAPES: [Shape; 20] = [
     ("mine-parallel", || logs_of(flat(Parallel), Events::Once, 8)),
     ("mine-few-long-episodes", || logs_of(long_body(), Events::Once, 2)),
     ("mine-one-event-episodes", || logs_of(flat(Choice), Events::Once, 8)),
+    ("mine-forty-distinct", || mine(repeating_log(&grouped_episodes(40)))),
+    ("mine-eight-distinct", || mine(repeating_log(&grouped_episodes(8)))),
+    ("mine-all-distinct", || mine(log_without_repeats())),
+    ("mine-empty-records", || mine(repeating_log(&[vec![]]))),
+    ("mine-one-event-records", || mine(repeating_log(&every_episode(4, 1)))),
+    ("mine-many-short", || mine(first_fit(&most_episodes()))),
+    ("mine-crowded", || mine(first_fit(&crowd(every_episode(32, 3), 0, number_of)[..2_016]))),
     ("judge-balanced", || judge_fit(balanced(Sequence, Choice, blossoms()))),
     ("judge-balanced-parallel", || judge_fit(balanced(Sequence, Parallel, blossoms()))),
     ("judge-sequence-comb", || judge_fit(comb(Sequence))),
@@ -52,6 +63,10 @@ pub fn task(name: &str) -> Option<Task> {
     SHAPES.iter().chain(&WORST).chain(&BROKEN).find(|(shape, _)| *shape == name).map(|(_, make)| make())
 }
 
+fn mine(log: Vec<u8>) -> Task {
+    Task::Mine { log }
+}
+
 /// What becomes of the events that a tree gives.
 #[derive(Clone, Copy)]
 enum Events {
@@ -70,7 +85,7 @@ fn logs_of(tree: Tree, events: Events, odds: usize) -> Task {
             return episode;
         }
     };
-    Task::Mine { log: largest_log(&mut Random::seeded(61), next) }
+    mine(largest_log(&mut Random::seeded(61), next))
 }
 
 fn times(random: &mut Random, events: Events) -> usize {
@@ -93,7 +108,7 @@ fn logs_around(longest: usize) -> Task {
         }
         episode
     };
-    Task::Mine { log: largest_log(&mut Random::seeded(62), next) }
+    mine(largest_log(&mut Random::seeded(62), next))
 }
 
 fn leaves() -> Vec<Tree> {

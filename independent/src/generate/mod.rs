@@ -2,6 +2,7 @@
 
 pub mod components;
 pub mod damage;
+pub mod distinct;
 pub mod largest;
 pub mod logs;
 pub mod random;

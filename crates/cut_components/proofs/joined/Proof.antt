@@ -1,8 +1,7 @@
 use native.Mathlib.Omega.{arith}
 use Prim.Native.Nat.{ℕ, _-_}
-use mathlib.Core.Path.{ap, _∙_}
+use mathlib.Core.Path.{refl, ap, _∙_}
 use mathlib.Core.List.{[]}
-use mathlib.Core.Logic.{⊎-elim}
 use lib.ListN.{take}
 use Rattle.rules.specs.Calls.{codeCount}
 use Rattle.code_sets.proofs.BitLaws.{one-shl}
@@ -15,31 +14,22 @@ use Rattle.cut_components.proofs.joined.Statement.{statement}
 use Rattle.cut_components.proofs.joined.Tie as tie
 
 abbrev Inv-loop : tie.InvT-loop
-Inv-loop row code n sets whole₀ out₀ i₀ whole out i = Sweep row (joinOn row whole₀ [] (take n sets)) sets n i whole out
+Inv-loop row code n sets whole₀ kept₀ m₀ i₀ whole kept m i = Sweep row (joinOn row whole₀ [] (take n sets)) sets n i whole kept m
 
 abbrev μ-loop : tie.MeasureT-loop
-μ-loop row code n sets whole₀ out₀ i₀ whole out i = n - i
+μ-loop row code n sets whole₀ kept₀ m₀ i₀ whole kept m i = n - i
 
 shl-whole : tie.Need-shl-whole Inv-loop μ-loop
 shl-whole c = search needs
 
-new-requires : tie.Need-new-requires Inv-loop μ-loop
-new-requires c κs = search needs
-
-with-requires : tie.Need-with-requires Inv-loop μ-loop
-with-requires c κs = search needs
-
 loop-holds : tie.Need-loop-holds Inv-loop μ-loop
-loop-holds c = sweep-none (c .before .before .before .args .row) _ (c .before .before .before .args .parts .n) (c .before .before .before .args .parts .sets) (c .before .new .result) (c .with .result) (c .before .new .ensures) (c .with .ensures .0) (c .with .ensures .1)
+loop-holds c = sweep-none _ _ _ _ _ refl
 
 mul-part : tie.Need-mul-part Inv-loop μ-loop
 mul-part c = search needs
 
 array-read-part : tie.Need-array-read-part Inv-loop μ-loop
 array-read-part c = search needs
-
-with-requires-2 : tie.Need-with-requires-2 Inv-loop μ-loop
-with-requires-2 c κs = search needs
 
 add-i : tie.Need-add-i Inv-loop μ-loop
 add-i c = search needs
@@ -49,23 +39,35 @@ loop-less c = search needs
 
 loop-again : tie.Need-loop-again Inv-loop μ-loop
 loop-again c =
-    let a = c .before .before .before .before .before .before .args in
-    let l = c .before .before .loop in
-    let room = owned-field (a .parts .sets) _ (c .before .before .before .before .before .before .good .0 .1 .1 .1 .0) .size in
-    ⊎-elim
-    (λ w. sweep-met (a .row) _ (a .parts .sets) (a .parts .n) (l .i) (l .whole) (l .out) (omega arith) (omega arith) (l .inv) (c .if1 .whole) (c .if1 .out) (w .0 .taken) (w .1) (w .2))
-    (λ w. sweep-unmet (a .row) _ (a .parts .sets) (a .parts .n) (l .i) (l .whole) (l .out) (omega arith) (omega arith) (l .inv) (c .if1 .whole) (w .1 .result) (c .if1 .out) (w .0 .left) (w .1 .ensures .0) (w .1 .ensures .1) (w .2) (w .3))
-    (c .if1 .came)
+    let st = c .before .before .before .before in
+    search (sweep-met, owned-field (st .args .parts .sets) _ (st .good .0 .1 .1 .1 .0) .size)
 
-element-write-out : tie.Need-element-write-out Inv-loop μ-loop
-element-write-out c = search needs
+mul-kept : tie.Need-mul-kept Inv-loop μ-loop
+mul-kept c = search needs
+
+array-write-kept : tie.Need-array-write-kept Inv-loop μ-loop
+array-write-kept c = search needs
+
+add-m : tie.Need-add-m Inv-loop μ-loop
+add-m c = search needs
+
+loop-less-2 : tie.Need-loop-less-2 Inv-loop μ-loop
+loop-less-2 c = search needs
+
+loop-again-2 : tie.Need-loop-again-2 Inv-loop μ-loop
+loop-again-2 c =
+    let st = c .before .before .before .before in
+    search (sweep-unmet, owned-field (st .args .parts .sets) _ (st .good .0 .1 .1 .1 .0) .size)
+
+array-write-kept-2 : tie.Need-array-write-kept-2 Inv-loop μ-loop
+array-write-kept-2 c = search needs
 
 returns : tie.Need-returns Inv-loop μ-loop
 unfolding setsOf
 returns c =
-    let a = c .before .before .before .before .before .args in
+    let a = c .before .before .before .args in
     let l = c .before .loop in
-    (omega (arith, l .inv .few, l .inv .at), sweep-end (a .row) _ (a .parts .sets) (a .parts .n) (l .i) (l .whole) (l .out) (omega arith) (l .inv) ∙ ap (λ (w : ℕ). joinOn (a .row) w [] (setsOf (a .parts))) (one-shl codeCount (a .code) (omega arith)))
+    (omega (arith, l .inv .few, l .inv .at), sweep-end _ _ _ _ _ _ _ _ (l .inv) (omega arith) ∙ ap (λ (w : ℕ). joinOn (a .row) w [] (setsOf (a .parts))) (one-shl codeCount (a .code) (omega arith)))
 
 pub joined-spec : {M : Type 1} → statement M
 joined-spec =
@@ -74,14 +76,16 @@ joined-spec =
     Inv-loop
     μ-loop
     shl-whole
-    new-requires
-    with-requires
     loop-holds
     mul-part
     array-read-part
-    with-requires-2
     add-i
     loop-less
     loop-again
-    element-write-out
+    mul-kept
+    array-write-kept
+    add-m
+    loop-less-2
+    loop-again-2
+    array-write-kept-2
     returns)

@@ -1,60 +1,60 @@
 use native.Mathlib.Omega.{arith}
 use Prim.Native.Nat.{ℕ, _-_, _≤_}
-use mathlib.Core.Path.{_≡_}
-use mathlib.Core.List.{List}
-use lib.ListN.{replicate}
+use mathlib.Core.Path.{_≡_, refl, _∙_}
+use mathlib.Core.Bool.{_&&_}
+use lib.Dec.{ltb}
+use lib.ListN.{length}
 use Rattle.rules.specs.Calls.{codeCount}
-use Rattle.code_sets.specs.Bits.{has}
 use Rattle.graph_rows.specs.Edges.{edgeOf}
-use Rattle.graph_rows.proofs.TableLaws.{owned, edge-high, Filled, fill-none, fill-more, filled-edge}
+use Rattle.graph_rows.proofs.TableLaws.{owned}
+use Rattle.graph_reverse.proofs.TurnedLaws.{rows-none, rows-more, rows-all}
 use borrow.Author.Needs.{needs}
 use Rattle.graph_reverse.proofs.transpose.Statement.{statement}
 use Rattle.graph_reverse.proofs.transpose.Tie as tie
 
--- row c is the column c
-abbrev back : List ℕ → ℕ → ℕ → Type 0
-back rows c v = (a : ℕ) → has v a ≡ edgeOf rows a c
-
+-- the edges of the rows below a are turned
 abbrev Inv-loop : tie.InvT-loop
-Inv-loop rows out₀ c₀ out c = (c ≤ codeCount) × Filled (back rows) out₀ c out
+Inv-loop rows out₀ a₀ out a = (a ≤ codeCount) × (length out ≡ codeCount) × ((c b : ℕ) → edgeOf out c b ≡ (ltb b a && edgeOf rows b c))
 
 abbrev μ-loop : tie.MeasureT-loop
-μ-loop rows out₀ c₀ out c = codeCount - c
+μ-loop rows out₀ a₀ out a = codeCount - a
 
 loop-holds : tie.Need-loop-holds Inv-loop μ-loop
-loop-holds c = (omega arith, fill-none _ _)
+loop-holds c = (omega arith, refl, rows-none codeCount (c .args .t1))
 
-cast-i : tie.Need-cast-i Inv-loop μ-loop
-cast-i c = search needs
+cast-row : tie.Need-cast-row Inv-loop μ-loop
+cast-row c = search needs
 
-column-requires : tie.Need-column-requires Inv-loop μ-loop
-column-requires c κs = search needs
+mul-row : tie.Need-mul-row Inv-loop μ-loop
+mul-row c = search needs
 
-mul-out : tie.Need-mul-out Inv-loop μ-loop
-mul-out c = search needs
+array-read-row : tie.Need-array-read-row Inv-loop μ-loop
+array-read-row c = search needs
 
-array-write-out : tie.Need-array-write-out Inv-loop μ-loop
-array-write-out c = search needs
+slice-aggregate-turned : tie.Need-slice-aggregate-turned Inv-loop μ-loop
+slice-aggregate-turned c = search needs
 
-add-c : tie.Need-add-c Inv-loop μ-loop
-add-c c = search needs
+turned-requires : tie.Need-turned-requires Inv-loop μ-loop
+turned-requires c κs = search needs
+
+add-a : tie.Need-add-a Inv-loop μ-loop
+add-a c = search needs
 
 loop-less : tie.Need-loop-less Inv-loop μ-loop
 loop-less c = search needs
 
 loop-again : tie.Need-loop-again Inv-loop μ-loop
+unfolding edgeOf
 loop-again c =
-    let l = c .before .before .loop in (
-      omega arith,
-      fill-more (back (c .before .before .before .args .rows)) (replicate codeCount 0) (l .out) (l .c) (c .column .result) (omega arith) (l .inv .1) (c .column .ensures),
-    )
+    let l = c .before .before .before .before .loop in
+    let more = c .before .turned in
+    (omega arith, more .kept .0 ∙ l .inv .1, rows-more (c .before .before .before .before .before .args .t1) (l .out) (more .last .0) (l .a) (l .inv .2) (more .ensures))
 
 returns : tie.Need-returns Inv-loop μ-loop
-returns c =
-    let rows = c .before .before .args .rows in
+returns c i b =
+    let rows = c .before .before .args .t1 in
     let l = c .before .loop in
-    filled-edge (λ a b. edgeOf rows b a) (replicate codeCount 0) (l .out) (l .c) (omega arith) (l .inv .1)
-    (λ a b h. edge-high codeCount rows (owned rows _ (c .before .before .good .0)) b a h)
+    l .inv .2 i b ∙ rows-all rows (l .a) (omega (arith, owned rows _ (c .before .before .good .0) .size)) i b
 
 pub transpose-spec : {M : Type 1} → statement M
 transpose-spec =
@@ -63,11 +63,12 @@ transpose-spec =
     Inv-loop
     μ-loop
     loop-holds
-    cast-i
-    column-requires
-    mul-out
-    array-write-out
-    add-c
+    cast-row
+    mul-row
+    array-read-row
+    slice-aggregate-turned
+    turned-requires
+    add-a
     loop-less
     loop-again
     returns)

@@ -44,22 +44,35 @@ returns-4 c =
     let a = c .before .before .before .before .before .before .before .before .before .before .args in
     handed-says (a .log .now) (a .out .now) (a .work .now) _ (mining-log (a .log .now) (a .out .now) (a .work .now) _ (c .before .before .before .before .before .before .sized .ensures) (not-false _ (c .before .before .before .before .before .if1 .left)) (c .before .before .before .before .if2 .left) (c .before .before .before .if3 .left)) (c .before .before .sound-log .ensures) _ _ (c .enum-told2 .given .1)
 
-clear-requires : tie.Need-clear-requires
-clear-requires c κs = search needs
+sub-mine-log : tie.Need-sub-mine-log
+sub-mine-log c = search needs
 
-sub-mine-tree : tie.Need-sub-mine-tree
-sub-mine-tree c = search needs
+part-mine-log-start : tie.Need-part-mine-log-start
+part-mine-log-start c = search needs
 
-part-mine-tree-start : tie.Need-part-mine-tree-start
-part-mine-tree-start c = search needs
+part-mine-log-end : tie.Need-part-mine-log-end
+part-mine-log-end c = search needs
 
-part-mine-tree-end : tie.Need-part-mine-tree-end
-part-mine-tree-end c = search needs
+sub-mine-log-2 : tie.Need-sub-mine-log-2
+sub-mine-log-2 c = search needs
 
-mine-tree-requires : tie.Need-mine-tree-requires
-mine-tree-requires c κs =
-    let a = c .before .before .before .before .before .before .before .before .before .before .before .before .before .before .before .args in
-    (length-take-le 512 (a .out .now) (c .before .before .before .before .before .before .before .before .before .if2 .left), is-given _ _ _ (c .before .before .before .before .before .before .before .sound-log .ensures) (c .before .before .before .before .before .enum-told .given .1))
+part-mine-log-start-2 : tie.Need-part-mine-log-start-2
+part-mine-log-start-2 c = search needs
+
+part-mine-log-end-2 : tie.Need-part-mine-log-end-2
+part-mine-log-end-2 c = search needs
+
+mine-log-requires : tie.Need-mine-log-requires
+mine-log-requires c κs =
+    let sound = c .before .before .before .before in
+    let room = sound .before in
+    let whole = room .before .before in
+    let a = whole .before .before .before .before .before .args in (
+      length-take-le 512 (a .out .now) (room .before .if2 .left),
+      length-take-le 16384 (a .work .now) (room .if3 .left),
+      sized-most (a .log .now) (sym (whole .before .sized .ensures) ∙ not-false _ (whole .if1 .left)),
+      is-given _ _ _ (sound .sound-log .ensures) (c .before .before .enum-told .given .1),
+    )
 
 same-length : tie.Need-same-length
 same-length c = search needs
@@ -69,11 +82,15 @@ same-length-2 c = search needs
 
 returns-5 : tie.Need-returns-5
 returns-5 c =
-    let a = c .before .before .before .before .before .before .before .before .before .before .before .before .before .before .before .before .before .before .args in
-    let accepted = mining-log (a .log .now) (a .out .now) (a .work .now) _ (c .before .before .before .before .before .before .before .before .before .before .before .before .before .before .sized .ensures) (not-false _ (c .before .before .before .before .before .before .before .before .before .before .before .before .before .if1 .left)) (c .before .before .before .before .before .before .before .before .before .before .before .before .if2 .left) (c .before .before .before .before .before .before .before .before .before .before .before .if3 .left) ∙ sym (c .before .before .before .before .before .before .before .before .before .before .sound-log .ensures) ∙ c .before .before .before .before .before .before .before .before .enum-told .given .1 in
-    let mined = c .before .before .mine-tree in
-    let zeroed = c .before .before .before .before .before .before .clear in
-    gives-says (a .log .now) (a .out .now) (a .work .now) _ accepted (mined .result) (mined .ensures .0) _ _ (ap (λ (b : List ℕ). b ++ drop 512 (a .out .now)) (mined .ensures .1)) (zeroed .ensures)
+    let mined = c .before .before .before .before .mine-log in
+    let sound = c .before .before .before .before .before .before .before .before .before in
+    let room = sound .before in
+    let whole = room .before .before in
+    let a = whole .before .before .before .before .before .args in
+    let accepted = mining-log (a .log .now) (a .out .now) (a .work .now) _ (whole .before .sized .ensures) (not-false _ (whole .if1 .left)) (room .before .if2 .left) (room .if3 .left)
+    ∙ sym (sound .sound-log .ensures) ∙ c .before .before .before .before .before .before .before .enum-told .given .1 in
+    gives-says (a .log .now) (a .out .now) (a .work .now) _ accepted (mined .result) (mined .ensures .0) _ _
+    (ap (λ (b : List ℕ). b ++ drop 512 (a .out .now)) (mined .ensures .1)) (ap (λ (b : List ℕ). b ++ drop 16384 (a .work .now)) (mined .ensures .2))
 
 pub mine-spec : {M : Type 1} → statement M
 mine-spec =
@@ -87,11 +104,13 @@ mine-spec =
     enum-told
     enum-told-2
     returns-4
-    clear-requires
-    sub-mine-tree
-    part-mine-tree-start
-    part-mine-tree-end
-    mine-tree-requires
+    sub-mine-log
+    part-mine-log-start
+    part-mine-log-end
+    sub-mine-log-2
+    part-mine-log-start-2
+    part-mine-log-end-2
+    mine-log-requires
     same-length
     same-length-2
     returns-5)

@@ -1,15 +1,10 @@
 use mathlib.Core.Path.{ap, _∙_}
-use native.Mathlib.Omega.{arith}
+use native.Mathlib.Nat.{zero-add}
 use lib.ListN.{length}
 use Rattle.rules.specs.Trees.{size}
-use Rattle.rules.specs.LogBlock.{logEpisodes}
-use Rattle.rules.specs.Calls.{codeCount}
-use Rattle.rules.proofs.AnswerLaws.{given-is}
-use Rattle.rules.proofs.Occurring.{Below}
-use Rattle.log_episodes.proofs.EpisodeLaws.{log-codes}
-use native.Mathlib.Nat.{zero-add}
 use Rattle.rules.proofs.TreeBlockLaws.{zeros-length}
-use Rattle.mine_call.proofs.CallLaws.{root-ready, root-mined, clear-whole, block-is}
+use Rattle.mine_places.specs.Places.{episodesOf}
+use Rattle.mine_call.proofs.CallLaws.{listed-below, root-ready, root-mined, clear-whole, block-is}
 use borrow.Author.Needs.{needs}
 use Rattle.mine_call.proofs.mine_tree.Statement.{statement}
 use Rattle.mine_call.proofs.mine_tree.Tie as tie
@@ -22,13 +17,12 @@ root-of-requires c κs = search needs
 
 mine-node-requires : tie.Need-mine-node-requires
 mine-node-requires c κs =
-    let a = c .before .before .before .before .before .before .before .before .args in
-    let l = logEpisodes 1 (a .log .now) in
-    let sound = given-is _ (c .before .before .before .before .before .before .before .before .pre .1) in
-    let small : Below codeCount l = log-codes 1 (a .log .now) (sound .0) (omega arith) (sound .1) in
+    let start = c .before .before .before .before .before .before .before .before .before in
+    let a = start .args in
+    let small = listed-below (a .w) (a .log .now) (a .places .now) (start .pre .1) in
     let v = c .before .root-of in
     let zeroed = c .before .before .before .before .clear in
-    (c .before .before .before .before .before .before .before .before .pre .1, root-ready l small (v .result) (v .ensures) (zeroed .last .0) (ap length (zeroed .ensures ∙ clear-whole (a .tree .now) (c .before .before .before .before .before .before .before .before .pre .0)) ∙ zeros-length 512))
+    (start .pre .1, root-ready (episodesOf (a .w) (a .log .now) (a .places .now)) small (v .result) (v .ensures) (zeroed .last .0) (ap length (zeroed .ensures ∙ clear-whole 512 (a .tree .now) (start .pre .0)) ∙ zeros-length 512))
 
 seal-requires : tie.Need-seal-requires
 seal-requires c κs = search needs
@@ -38,16 +32,15 @@ same-length c = search needs
 
 returns : tie.Need-returns
 returns c =
-    let a = c .before .before .before .before .before .before .before .before .before .before .before .before .before .before .before .args in
-    let l = logEpisodes 1 (a .log .now) in
-    let sound = given-is _ (c .before .before .before .before .before .before .before .before .before .before .before .before .before .before .before .pre .1) in
-    let small : Below codeCount l = log-codes 1 (a .log .now) (sound .0) (omega arith) (sound .1) in
+    let start = c .before .before .before .before .before .before .before .before .before .before .before .before .before .before .before .before in
+    let a = start .args in
+    let small = listed-below (a .w) (a .log .now) (a .places .now) (start .pre .1) in
     let v = c .before .before .before .before .before .before .before .before .root-of in
     let zeroed = c .before .before .before .before .before .before .before .before .before .before .before .clear in
     let wrote = c .before .before .before .before .before .before .mine-node in
-    let same = root-mined l small (v .result) (v .ensures) in (
+    let same = root-mined (episodesOf (a .w) (a .log .now) (a .places .now)) small (v .result) (v .ensures) in (
       wrote .ensures .next ∙ zero-add _ ∙ ap size same,
-      block-is _ _ (zeroed .last .0) (wrote .last .1 .0) (c .before .before .seal .last .0) same (zeroed .ensures ∙ clear-whole (a .tree .now) (c .before .before .before .before .before .before .before .before .before .before .before .before .before .before .before .pre .0)) (wrote .ensures .block) (c .before .before .seal .ensures),
+      block-is _ _ (zeroed .last .0) (wrote .last .1 .1 .1 .0) (c .before .before .seal .last .0) same (zeroed .ensures ∙ clear-whole 512 (a .tree .now) (start .pre .0)) (wrote .ensures .block) (c .before .before .seal .ensures),
     )
 
 pub mine-tree-spec : {M : Type 1} → statement M

@@ -1,4 +1,4 @@
-use Rattle.rules.specs.LogBlock.{logEpisodes}
+use Rattle.mine_places.specs.Places.{episodesOf}
 use Rattle.graph_rows.proofs.TableLaws.{owned-field}
 use Rattle.mine_plan.proofs.PlannedLaws.{planned-silent, planned-flower, planned-leaf, planned-none, planned-cut}
 use borrow.Author.Needs.{needs}
@@ -10,16 +10,16 @@ uncut-requires c κs = search needs
 
 returns : tie.Need-returns
 returns c =
-    let a = c .before .before .before .before .before .args in
-    planned-silent (logEpisodes 1 (a .log .now)) (a .v) (c .uncut .result) (c .uncut .ensures) (c .before .if1 .taken)
+    let a = c .before .before .before .before .before .before .args in
+    planned-silent (episodesOf (a .w) (a .log .now) (a .places .now)) (a .v) (c .uncut .result) (c .uncut .ensures) (c .before .if1 .taken)
 
 uncut-requires-2 : tie.Need-uncut-requires-2
 uncut-requires-2 c κs = search needs
 
 returns-2 : tie.Need-returns-2
 returns-2 c =
-    let a = c .before .before .before .before .before .before .args in
-    planned-flower (logEpisodes 1 (a .log .now)) (a .v) (c .uncut2 .result) (c .uncut2 .ensures) (search needs) (c .before .before .if1 .left) (c .before .if2 .taken)
+    let a = c .before .before .before .before .before .before .before .args in
+    planned-flower (episodesOf (a .w) (a .log .now) (a .places .now)) (a .v) (c .uncut2 .result) (c .uncut2 .ensures) (search needs) (c .before .before .if1 .left) (c .before .if2 .taken)
 
 graph-of-requires : tie.Need-graph-of-requires
 graph-of-requires c κs = search needs
@@ -32,10 +32,10 @@ uncut-requires-3 c κs = search needs
 
 returns-3 : tie.Need-returns-3
 returns-3 c =
-    let a = c .before .before .before .before .before .before .before .before .before .args in
+    let a = c .before .before .before .before .before .before .before .before .before .before .args in
     let g = c .before .before .before .graph-of in
     let one = c .before .before .alone in
-    planned-leaf (logEpisodes 1 (a .log .now)) (a .v) (search needs) (c .before .before .before .before .before .if1 .left) (c .before .before .before .before .if2 .left) (g .result) (g .ensures) (one .result) (one .ensures) (c .before .if3 .taken) (c .uncut3 .result) (c .uncut3 .ensures)
+    planned-leaf (episodesOf (a .w) (a .log .now) (a .places .now)) (a .v) (search needs) (c .before .before .before .before .before .if1 .left) (c .before .before .before .before .if2 .left) (g .result) (g .ensures) (one .result) (one .ensures) (c .before .if3 .taken) (c .uncut3 .result) (c .uncut3 .ensures)
 
 cut-of-requires : tie.Need-cut-of-requires
 cut-of-requires c κs = search needs
@@ -57,8 +57,8 @@ returns-4 c =
     let at = c .before .before .before .before in
     let one = at .before .before in
     let some = one .before .before .before in
-    let a = some .before .before .before .before .args in
-    planned-none (logEpisodes 1 (a .log .now)) (a .v) (search (needs, some .before .struct-known .given)) (some .if1 .left) (one .before .before .if2 .left) (one .before .graph-of .result) (one .before .graph-of .ensures) (one .alone .result) (one .alone .ensures) (at .before .if3 .left) (at .cut-of .result) (at .cut-of .ensures)
+    let a = some .before .before .before .before .before .args in
+    planned-none (episodesOf (a .w) (a .log .now) (a .places .now)) (a .v) (search (needs, some .before .struct-known .given)) (some .if1 .left) (one .before .before .if2 .left) (one .before .graph-of .result) (one .before .graph-of .ensures) (one .alone .result) (one .alone .ensures) (at .before .if3 .left) (at .cut-of .result) (at .cut-of .ensures)
     (c .before .enum-told .given .1) (c .uncut4 .result) (c .uncut4 .ensures)
 
 returns-5 : tie.Need-returns-5
@@ -66,8 +66,8 @@ returns-5 c =
     let at = c .before .before .before .before .before in
     let one = at .before .before in
     let some = one .before .before .before in
-    let a = some .before .before .before .before .args in
-    planned-cut (logEpisodes 1 (a .log .now)) (a .v) (search (needs, some .before .struct-known .given)) (some .if1 .left) (one .before .before .if2 .left) (one .before .graph-of .result) (one .before .graph-of .ensures) (one .alone .result) (one .alone .ensures) (at .before .if3 .left) (at .cut-of .result) (at .cut-of .ensures)
+    let a = some .before .before .before .before .before .args in
+    planned-cut (episodesOf (a .w) (a .log .now) (a .places .now)) (a .v) (search (needs, some .before .struct-known .given)) (some .if1 .left) (one .before .before .if2 .left) (one .before .graph-of .result) (one .before .graph-of .ensures) (one .alone .result) (one .alone .ensures) (at .before .if3 .left) (at .cut-of .result) (at .cut-of .ensures)
     (owned-field (at .cut-of .result .parts .sets) _ (at .cut-of .ok .1 .1 .1 .0 .1 .1 .1 .0) .size) _ (c .before .before .found .given .1) (c .cut-plan .result) (c .cut-plan .ensures)
 
 pub planned-spec : {M : Type 1} → statement M

@@ -7,10 +7,10 @@ met-codes-requires : tie.Need-met-codes-requires
 met-codes-requires c κs = search needs
 
 returns : tie.Need-returns
-returns c = widened-bare _ _ _ _ _ (c .before .met-codes .ensures) (c .if1 .taken)
+returns c = search widened-bare depth 9
 
 returns-2 : tie.Need-returns-2
-returns-2 c = widened-full _ _ _ _ _ (c .before .met-codes .ensures) (c .if1 .left)
+returns-2 c = search widened-full depth 9
 
 pub root-codes-spec : {M : Type 1} → statement M
 root-codes-spec = tie.close (tie.spec met-codes-requires returns returns-2)

@@ -2,10 +2,12 @@
 //!
 //!     bench                   a table of times with their ratio
 //!     bench list              the names of the cases and of the sides
-//!     bench run CASE SIDE     one call, inside the function `measured_call` for an instruction counter
+//!     bench run CASE SIDE     one call, inside the function `measured_call` for an instruction counter; the side may be
+//!                             `nothing`: all but the call
 //!     bench stack CASE SIDE   the bytes of stack that one call uses; the side may be `bridge` too
 //!     bench request CASE      what asks the bridge for the call; with `nothing` after it, for all but the call
 
+mod nothing;
 mod side_by_side;
 mod stack;
 
@@ -59,8 +61,11 @@ impl Lent {
 
 impl Call {
     fn named(case: &str, side: &str) -> Option<Call> {
-        let side = sides().into_iter().find(|one| one.name() == side)?;
-        Some(Call { side, task: Lent::named(case)? })
+        // First what is lent: making it takes as many instructions whatever the side is.
+        let task = Lent::named(case)?;
+        let nothing: Box<dyn Gateway> = Box::new(nothing::Nothing);
+        let side = sides().into_iter().chain([nothing]).find(|one| one.name() == side)?;
+        Some(Call { side, task })
     }
 }
 

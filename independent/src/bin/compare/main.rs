@@ -4,10 +4,12 @@
 //!     compare [CALL]      CALL is reading, adding, mining, checking or judging; all of them if it is left out
 
 mod adding;
+mod gathering;
 mod judging;
 mod mining;
 mod parallel;
 mod reading;
+mod slots;
 mod tally;
 mod trees;
 mod trial;
@@ -28,7 +30,7 @@ fn main() -> ExitCode {
 
 type Suite = fn(&mut Tally);
 
-const SUITES: [(&str, Suite); 20] = [
+const SUITES: [(&str, Suite); 30] = [
     ("reading, every place of a block", reading::every_place),
     ("reading, lengths and far places", reading::lengths),
     ("adding, every length of episode", adding::every_length),
@@ -42,6 +44,16 @@ const SUITES: [(&str, Suite); 20] = [
     ("mining, full logs", mining::full_logs),
     ("mining, the measured logs", mining::measured_logs),
     ("mining, logs joined in either order and to themselves", mining::joined_logs),
+    ("mining, a record that is the only one of its kind", gathering::only_one_of_its_kind),
+    ("mining, blocks of 255 records", gathering::most_records),
+    ("mining, episodes that differ in one code", gathering::one_code_apart),
+    ("mining, an episode and its beginnings", gathering::prefixes),
+    ("mining, the same events in another order", gathering::permutations),
+    ("mining, episodes that come again", gathering::repeated),
+    ("mining, whatever the work holds", gathering::whatever_the_work_holds),
+    ("mining, many episodes for a few slots", slots::crowded),
+    ("mining, more episodes than slots", slots::more_than_slots),
+    ("mining, nearly equal episodes that meet in a slot", slots::nearly_equal),
     ("mining, two faults at once", mining::two_faults),
     ("checking, sound and damaged trees", trees::sound_and_damaged),
     ("checking, every byte changed", trees::every_byte),

@@ -15,7 +15,7 @@ use independent::log::{add, Episode, MOST_BLOCKS};
 use independent::tree::Tree;
 
 fn mine(tally: &mut Tally, log: Vec<u8>) {
-    tally.case(Case::Mine { log, out: BLOCK, work: MINING_WORK });
+    tally.case(Case::mine(log, BLOCK, MINING_WORK));
 }
 
 /// Every word of up to `longest` letters.
@@ -67,7 +67,7 @@ pub fn some_logs(tally: &mut Tally) {
     let sizes = [(512, 16_384), (513, 16_385), (600, 16_384), (512, 20_000), (8_192, 65_536)];
     for (out, work) in sizes {
         for log in [packed_log(any_episodes(&mut random, 30, 5, 9)), vec![0; BLOCK]] {
-            tally.case(Case::Mine { log, out, work });
+            tally.case(Case::mine(log, out, work));
         }
     }
 }
@@ -145,7 +145,7 @@ pub fn joined_logs(tally: &mut Tally) {
                 2 => (BLOCK + 1, MINING_WORK + 1),
                 _ => (BLOCK, MINING_WORK),
             };
-            let mut mined = |logs: &[&[u8]]| tally.case(Case::Mine { log: logs.concat(), out, work });
+            let mut mined = |logs: &[&[u8]]| tally.case(Case::mine(logs.concat(), out, work));
             let [order, turned] = [mined(&[&one, &other]), mined(&[&other, &one])];
             let [once, twice] = [mined(&[&one]), mined(&[&one, &one])];
             tally.holds("the order of two logs does not matter", order.leaves_as(&turned));
@@ -200,7 +200,7 @@ pub fn two_faults(tally: &mut Tally) {
     }
     for length in [0, 1, 511, 512, 513, 1023, 1024, 8_191, 8_192, 8_193, 8_704, 16_384] {
         for (out, work) in [(512, 16_384), (511, 16_384), (0, 0), (512, 16_383), (1, 1), (512, 0), (0, 16_384)] {
-            tally.case(Case::Mine { log: vec![0; length], out, work });
+            tally.case(Case::mine(vec![0; length], out, work));
         }
     }
 }
@@ -225,5 +225,5 @@ fn faulty(random: &mut Random, faults: [(Fault, usize); 2]) -> Case {
     }
     let out = if has(Fault::Out) { *random.pick(&[0, 1, 511]) } else { BLOCK };
     let work = if has(Fault::Work) { *random.pick(&[0, 1, MINING_WORK - 1]) } else { MINING_WORK };
-    Case::Mine { log, out, work }
+    Case::mine(log, out, work)
 }

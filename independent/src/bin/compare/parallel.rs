@@ -97,7 +97,7 @@ fn placed(place: Place, episodes: Vec<Episode>) -> Vec<Episode> {
 fn mine(tally: &mut Tally, random: &mut Random, plan: Plan) {
     let episodes = placed(plan.place, episodes_with(random, &plan.components, plan.way));
     let log = log_of(&episodes).expect("records and blocks hold it");
-    let outcome = tally.case(Case::Mine { log, out: BLOCK, work: MINING_WORK });
+    let outcome = tally.case(Case::mine(log, BLOCK, MINING_WORK));
     let codes = plan.components.iter().flat_map(|component| component.codes.clone()).collect();
     let tree = outcome.tree();
     let built = tree.as_ref().and_then(|tree| node_with(tree, &codes));

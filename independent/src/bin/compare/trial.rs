@@ -8,12 +8,25 @@ use std::fmt;
 pub enum Case {
     Read { block: Vec<u8>, at: usize },
     Add { block: Vec<u8>, episode: Vec<u8> },
-    Mine { log: Vec<u8>, out: usize, work: usize },
+    Mine { log: Vec<u8>, out: usize, work: usize, found: Found },
     Check { tree: Vec<u8> },
     Judge { tree: Vec<u8>, episode: Vec<u8>, work: usize },
 }
 
+/// What the work of mining holds when the call begins.
+#[derive(Clone, Copy, Debug)]
+pub enum Found {
+    /// Bytes of which none is zero.
+    Dirty,
+    /// One number of two bytes again and again, as a list or a table of places may hold it.
+    Numbers(u16),
+}
+
 impl Case {
+    pub fn mine(log: Vec<u8>, out: usize, work: usize) -> Case {
+        Case::Mine { log, out, work, found: Found::Dirty }
+    }
+
     pub fn call(&self) -> &'static str {
         match self {
             Case::Read { .. } => "reading",
@@ -29,7 +42,7 @@ impl Case {
         match self {
             Case::Read { block, .. } => block.is_empty(),
             Case::Add { block, episode } => block.is_empty() || episode.is_empty(),
-            Case::Mine { log, out, work } => log.is_empty() || *out == 0 || *work == 0,
+            Case::Mine { log, out, work, .. } => log.is_empty() || *out == 0 || *work == 0,
             Case::Check { tree } => tree.is_empty(),
             Case::Judge { tree, episode, work } => tree.is_empty() || episode.is_empty() || *work == 0,
         }
@@ -52,7 +65,9 @@ impl fmt::Display for Case {
         match self {
             Case::Read { block, at } => write!(to, "block {}, place {at}", Hex(block)),
             Case::Add { block, episode } => write!(to, "block {}, episode {}", Hex(block), Hex(episode)),
-            Case::Mine { log, out, work } => write!(to, "log {}, {out} bytes to write, work {work}", Hex(log)),
+            Case::Mine { log, out, work, found } => {
+                write!(to, "log {}, {out} bytes to write, work {work}, in it {found:?}", Hex(log))
+            }
             Case::Check { tree } => write!(to, "tree {}", Hex(tree)),
             Case::Judge { tree, episode, work } => {
                 write!(to, "tree {}, episode {}, work {work}", Hex(tree), Hex(episode))
@@ -113,6 +128,14 @@ fn lent_bytes(bytes: &[u8]) -> Lent<u8> {
     lent
 }
 
+fn lent_work(length: usize, found: Found) -> Lent<u8> {
+    let mut lent = Lent::filled(length, dirty);
+    if let Found::Numbers(number) = found {
+        lent.inner().chunks_mut(2).for_each(|two| two.copy_from_slice(&number.to_le_bytes()[..two.len()]));
+    }
+    lent
+}
+
 pub fn run(side: &dyn Gateway, case: &Case) -> Outcome {
     match case {
         Case::Read { block, at } => {
@@ -125,8 +148,8 @@ pub fn run(side: &dyn Gateway, case: &Case) -> Outcome {
             let answer = side.add(block.inner(), episode.inner());
             Outcome { answer, bytes: vec![block.0, episode.0], numbers: vec![] }
         }
-        Case::Mine { log, out, work } => {
-            let (mut log, mut out, mut work) = (lent_bytes(log), Lent::filled(*out, dirty), Lent::filled(*work, dirty));
+        Case::Mine { log, out, work, found } => {
+            let (mut log, mut out, mut work) = (lent_bytes(log), Lent::filled(*out, dirty), lent_work(*work, *found));
             let answer = side.mine(log.inner(), out.inner(), work.inner());
             Outcome { answer, bytes: vec![log.0, out.0, work.0], numbers: vec![] }
         }

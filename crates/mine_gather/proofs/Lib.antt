@@ -1,0 +1,5 @@
+pub mod PlaceLaws
+pub mod GatherLaws
+pub mod SameLaws
+pub mod FoundLaws
+pub mod BlockLaws
