@@ -99,5 +99,5 @@ pub fn judge_episode(tree: &[u8], episode: &[u8], work: &mut [u64]) -> Answer<us
     let tree = tree_of(tree)?;
     log::check_episode(episode)?;
     work[..JUDGING_WORK].fill(0);
-    Ok(judge::fits(&tree, episode) as usize)
+    Ok(judge::fits(&tree, &log::events_of(episode)) as usize)
 }

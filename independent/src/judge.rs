@@ -4,12 +4,12 @@ use crate::graph::Codes;
 use crate::tree::{Operator, Tree};
 use std::collections::{BTreeSet, HashMap};
 
-/// Says whether the episode is in the tree's language. No code may label two leaves: an interleaving then has one
+/// Says whether an episode's events are in the tree's language. No code may label two leaves: an interleaving then has one
 /// projection to each child, and no other way to be taken apart.
-pub fn fits(tree: &Tree, episode: &[u8]) -> bool {
+pub fn fits(tree: &Tree, events: &[u8]) -> bool {
     let mut nodes = Vec::new();
     number_nodes(tree, &mut nodes);
-    Recogniser { nodes, known: HashMap::new() }.in_language(0, episode)
+    Recogniser { nodes, known: HashMap::new() }.in_language(0, events)
 }
 
 struct Node<'t> {

@@ -1,7 +1,7 @@
 //! Trees and tree blocks: writing one down in preorder, and reading one back where it is well formed.
 
 use crate::block::{write_check, BLOCK};
-use crate::log::LARGEST_CODE;
+use crate::log::is_event;
 use std::collections::BTreeSet;
 
 pub const ENTRIES: usize = 127;
@@ -93,7 +93,7 @@ fn node(block: &[u8], at: usize) -> Option<Tree> {
     let [kind, argument, size, zero] = block[4 * at..4 * at + 4] else { return None };
     let tree = match kind {
         1 if argument == 0 => Tree::Silent,
-        2 if argument <= LARGEST_CODE => Tree::Activity(argument),
+        2 if is_event(argument) => Tree::Activity(argument),
         _ if argument >= 2 => Tree::Node(operator_of(kind)?, list(block, at + 1, argument as usize)?),
         _ => return None,
     };

@@ -117,14 +117,14 @@ fn adding() {
 
 #[test]
 fn checking() {
-    let leaf = Tree::Activity(31).block();
+    let leaf = Tree::Activity(30).block();
     for side in SIDES {
         assert_eq!(side.check(&leaf), 1);
         assert_eq!(side.check(&leaf[..511]), refused(8, 0));
         let mut wrong_check = leaf;
         wrong_check[508] ^= 1;
         assert_eq!(side.check(&wrong_check), refused(8, 0));
-        let unsound: [&[u8]; 14] = [
+        let unsound: [&[u8]; 15] = [
             &[],
             &[0, 0, 1, 0],
             &[7, 2, 3, 0, 1, 0, 1, 0, 1, 0, 1, 0],
@@ -133,6 +133,7 @@ fn checking() {
             &[1, 0, 1, 1],
             &[1, 0, 1, 0, 1, 0, 1, 0],
             &[1, 0, 1, 0, 0, 0, 0, 1],
+            &[2, 31, 1, 0],
             &[2, 32, 1, 0],
             &[3, 1, 2, 0, 1, 0, 1, 0],
             &[3, 0, 1, 0],

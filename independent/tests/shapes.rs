@@ -4,29 +4,31 @@ use independent::answer::refuse;
 use independent::calls::{check, Gateway};
 use independent::fast::{number_of, Fast, SLOTS};
 use independent::generate::largest::{task, Task, BROKEN, SHAPES, WORST};
-use independent::log::{episodes_of, Episode};
+use independent::log::{episodes_of, records_of, Episode, HEARTBEAT};
 use std::collections::{BTreeMap, BTreeSet};
 
-/// Of each mined log: its records, its distinct episodes, its codes, and the nodes of its tree.
-const LOGS: [(&str, [usize; 4]); 18] = [
-    ("mine-balanced", [731, 654, 32, 127]),
-    ("mine-balanced-parallel", [1_352, 1_314, 32, 127]),
-    ("mine-sequence-loop-comb", [250, 231, 32, 127]),
-    ("mine-choice-sequence-comb", [461, 420, 32, 125]),
-    ("mine-flower", [287, 285, 32, 34]),
-    ("mine-flower-of-pairs", [3_253, 494, 32, 34]),
-    ("mine-sequence", [240, 1, 32, 33]),
-    ("mine-skipped-steps", [274, 264, 32, 97]),
-    ("mine-parallel", [240, 240, 32, 33]),
-    ("mine-few-long-episodes", [195, 195, 32, 49]),
-    ("mine-one-event-episodes", [4_048, 32, 32, 33]),
-    ("mine-forty-distinct", [196, 40, 32, 121]),
-    ("mine-eight-distinct", [194, 8, 32, 121]),
-    ("mine-all-distinct", [187, 187, 32, 121]),
+/// Of each mined log: its records, its distinct episodes, its codes of events, and the nodes of its tree.
+const LOGS: [(&str, [usize; 4]); 20] = [
+    ("mine-balanced", [741, 654, 31, 123]),
+    ("mine-balanced-parallel", [1_342, 1_299, 31, 123]),
+    ("mine-sequence-loop-comb", [233, 233, 31, 123]),
+    ("mine-choice-sequence-comb", [487, 426, 31, 123]),
+    ("mine-flower", [287, 286, 31, 33]),
+    ("mine-flower-of-pairs", [3_253, 478, 31, 33]),
+    ("mine-sequence", [240, 1, 31, 32]),
+    ("mine-skipped-steps", [285, 272, 31, 94]),
+    ("mine-parallel", [240, 240, 31, 32]),
+    ("mine-few-long-episodes", [194, 194, 31, 48]),
+    ("mine-one-event-episodes", [4_048, 31, 31, 32]),
+    ("mine-forty-distinct", [196, 40, 31, 117]),
+    ("mine-eight-distinct", [194, 8, 31, 117]),
+    ("mine-all-distinct", [191, 191, 31, 117]),
     ("mine-empty-records", [4_080, 1, 0, 1]),
     ("mine-one-event-records", [4_048, 4, 4, 5]),
-    ("mine-many-short", [2_300, 2_300, 32, 34]),
-    ("mine-crowded", [2_016, 2_016, 32, 34]),
+    ("mine-many-short", [2_284, 2_284, 31, 33]),
+    ("mine-crowded", [2_016, 2_016, 31, 33]),
+    ("mine-heartbeats-between", [406, 378, 31, 123]),
+    ("mine-few-heartbeats", [725, 645, 31, 123]),
 ];
 
 fn log_of(name: &str) -> Vec<u8> {
@@ -47,6 +49,25 @@ fn logs_have_what_they_are_said_to_have() {
         let codes: BTreeSet<&u8> = episodes.iter().flatten().collect();
         let nodes = Fast.mine(&log, &mut [0; 512], &mut [0; 16_384]) as usize;
         assert_eq!([episodes.len(), distinct.len(), codes.len(), nodes], facts, "{name}");
+    }
+}
+
+/// Of each log with heartbeats: how many of its records have one, and how many heartbeats they have.
+const BEATING: [(&str, [usize; 2]); 2] =
+    [("mine-heartbeats-between", [406, 3_591]), ("mine-few-heartbeats", [185, 185])];
+
+#[test]
+fn logs_have_the_heartbeats_that_they_are_said_to_have() {
+    for (name, _) in LOGS {
+        let log = log_of(name);
+        let beats = |block: &[u8]| {
+            let records = records_of(block).expect("a sound log").into_iter();
+            let count = |codes: std::ops::Range<usize>| block[codes].iter().filter(|&&code| code == HEARTBEAT).count();
+            records.map(count).filter(|&count| count > 0).collect::<Vec<usize>>()
+        };
+        let beats: Vec<usize> = log.chunks(512).flat_map(beats).collect();
+        let facts = BEATING.iter().find(|(beating, _)| *beating == name).map_or([0, 0], |(_, facts)| *facts);
+        assert_eq!([beats.len(), beats.iter().sum()], facts, "{name}");
     }
 }
 

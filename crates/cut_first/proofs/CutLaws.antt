@@ -3,19 +3,19 @@ use mathlib.Core.Path.{_≡_, refl, sym, _∙_, ap}
 use mathlib.Core.Logic.{_⊎_, inl, inr, ⊎-elim}
 use mathlib.Core.List.{List, [], _∷_}
 use mathlib.Core.Bool.{Bool, true, false, not}
-use Prim.Native.Nat.{ℕ, suc, _≤_, _<_}
+use Prim.Native.Nat.{ℕ, _≤_, _<_}
 use native.Mathlib.Omega.{arith}
 use lib.ListN.{length}
 use borrow.Author.Tests.{lt-ltb}
 use Rattle.rules.specs.declared.Operator.{Operator}
 use Rattle.rules.specs.declared.Operator.the-variants.{Choice, Sequence, Parallel, Loop}
-use Rattle.rules.specs.Words.{pick, any, push, keep, from}
+use Rattle.rules.specs.Words.{pick, any, keep, from}
 use Rattle.rules.specs.Trees.{Op, choice, sequence, parallel, loop}
 use Rattle.rules.specs.Mining as mining
 use Rattle.rules.specs.Mining.{Rel, Shape, nothing, flower, cut, orElse, cutOr, reach, components, join, either, together, notBoth, hasStart, onBorder, isRedo, choiceParts, sequenceParts, parallelParts, redoParts, loopParts}
 use Rattle.rules.specs.Calls.{codeCount}
 use Rattle.rules.proofs.BoolLaws.{bool-cases, clash}
-use Rattle.rules.proofs.ListLaws.{Has, has-any, false-any, keep-all, length-from}
+use Rattle.rules.proofs.ListLaws.{Has, has-any, false-any, keep-all, length-from, length-push, length-keep}
 use Rattle.rules.proofs.Order.{length-ordered}
 use Rattle.rules.proofs.ParallelParts.{parallel-number}
 use Rattle.code_sets.specs.Bits.{has, listed}
@@ -33,14 +33,6 @@ use Rattle.cut_first.specs.declared.Cut.{Cut}
 use Rattle.cut_first.specs.Cuts.{Inside, cutElse, cutShape, WithoutLoop, CutOf}
 
 -- ---- how many
-
-length-push : {A : Type 0} (b : Bool) (x : A) (xs : List A) → length (push b x xs) ≤ suc (length xs)
-length-push true x xs = omega arith
-length-push false x xs = omega arith
-
-pub length-keep : {A : Type 0} (p : A → Bool) (xs : List A) → length (keep p xs) ≤ length xs
-length-keep p [] = omega arith
-length-keep p (x ∷ xs) = omega (arith, length-keep p xs, length-push (p x) x (keep p xs))
 
 length-dropped : {A : Type 0} (p : A → Bool) (x : A) (xs : List A) → Has x xs → p x ≡ false → length (keep p xs) < length xs
 length-dropped p x [] m h = absurd m

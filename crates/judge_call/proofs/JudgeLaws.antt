@@ -1,11 +1,12 @@
 -- What judging says, from what an accepted call knows and from what the rows tell.
-use Prim.Native.Nat.{ℕ}
+use Prim.Native.Nat.{ℕ, _≤_}
 use native.Mathlib.Nat.{zero-add}
 use native.Mathlib.Omega.{arith}
 use mathlib.Core.List.{List}
 use mathlib.Core.Path.{_≡_, sym, ap, _∙_, subst}
 use mathlib.Core.Bool.{Bool, true, false, false≢true}
 use lib.ListN.{length}
+use Rattle.rules.specs.Heartbeats.{withoutHeartbeats}
 use Rattle.rules.specs.Trees.{Tree, size, In}
 use Rattle.rules.specs.TreeBlock.{sizeAt, treeBlock}
 use Rattle.rules.specs.Calls.{after, cleared, judging, VerdictOf, JudgeSays}
@@ -14,6 +15,7 @@ use Rattle.rules.specs.declared.Answer.the-variants.{Gives, Refused}
 use Rattle.rules.specs.declared.Verdict.{Verdict}
 use Rattle.rules.specs.declared.Verdict.the-variants.{Fits, Misfit}
 use Rattle.rules.proofs.FormedLaws.{FormedTree, formed-tree, formed-one}
+use Rattle.rules.proofs.HeartbeatLaws.{without-short}
 use Rattle.judge_rows.specs.Rows.{Says}
 use Rattle.judge_subtrees.specs.Entries.{Subtree}
 use Rattle.judge_fits.specs.Fits.{Nodes}
@@ -39,9 +41,12 @@ module _ (b e work : List ℕ) (a : Answer) (call : a ≡ judging b e work) wher
     pub judge-long : length b ≡ 512
     judge-long = given .long
 
+    pub judge-short : length e ≤ 63
+    judge-short = given .short
+
     module _ (n : ℕ) (len : n ≡ sizeAt b 0) where
       -- every entry holds a tree
-      pub judge-nodes : Nodes b e work n
+      pub judge-nodes : Nodes b (withoutHeartbeats e) work n
       judge-nodes =
           let g = given in
           let found = formed-tree b (g .nodes) (g .formed) in
@@ -50,21 +55,21 @@ module _ (b e work : List ℕ) (a : Answer) (call : a ≡ judging b e work) wher
           let fits = f .fits in
           let q : size t ≡ n = sym (len ∙ holds-size t b 0 (f .held)) in
           record {
-            sized = record { block = g .long; short = g .short; room = g .room };
+            sized = record { block = g .long; short = omega (arith, g .short, without-short e); room = g .room };
             each = λ v l. subst (Subtree b v) (zero-add (size t) ∙ q) (every-entry t b 0 v (f .held) (f .wellFormed) (omega arith) (omega arith));
             some = omega (arith, size-some t);
             few = omega arith;
           }
 
       -- what the test says of the tree whose block this is
-      tree-says : (r : Bool) → FitSays b n e r → (t : Tree) → treeBlock t ≡ b → Says r (In t e)
+      tree-says : (r : Bool) → FitSays b n (withoutHeartbeats e) r → (t : Tree) → treeBlock t ≡ b → Says r (In t (withoutHeartbeats e))
       unfolding FitSays
       tree-says r says t block =
           let g = given in
           let f = formed-one b (g .nodes) t (g .formed) block in
           says t (f .held) (sym (len ∙ holds-size t b 0 (f .held))) (f .wellFormed)
 
-      module _ (r : Bool) (work′ : List ℕ) (says : FitSays b n e r) (wiped : work′ ≡ cleared 8128 work) where
+      module _ (r : Bool) (work′ : List ℕ) (says : FitSays b n (withoutHeartbeats e) r) (wiped : work′ ≡ cleared 8128 work) where
         given-says : (v : Verdict) → VerdictOf (Gives m) b e v → JudgeSays b e work v work′
         given-says v s =
             let q : judging b e work ≡ Gives m = sym call ∙ h in

@@ -4,6 +4,7 @@ use mathlib.Core.List.{List}
 use mathlib.Core.Path.{_≡_, refl, sym, _∙_}
 use lib.ListN.{getD}
 use borrow.Author.Tests.{eq-eqb}
+use Rattle.rules.specs.Heartbeats.{withoutHeartbeats}
 use Rattle.rules.specs.Trees.{Tree}
 use Rattle.rules.specs.Calls.{checking, judging, Judged, VerdictOf, JudgeSays}
 use Rattle.rules.specs.declared.Answer.{Answer}
@@ -33,7 +34,7 @@ module _ (b e work : List ℕ) (bytes : (i : ℕ) → getD b i 0 < 256) where
   verdict-one (Gives m) q r s p p′ =
       let g = judging-given b e work m q in
       let found = accepted-tree b bytes (g .nodes) (accepted-checking g) in
-      judged-one (found .0) e r s (p (found .0) (found .1 .block)) (p′ (found .0) (found .1 .block))
+      judged-one (found .0) (withoutHeartbeats e) r s (p (found .0) (found .1 .block)) (p′ (found .0) (found .1 .block))
   verdict-one (Refused number place) q r s p p′ = p ∙ sym p′
 
   -- THEOREM: two answers that meet the contract are one

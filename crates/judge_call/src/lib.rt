@@ -1,13 +1,16 @@
 // Judging an episode against a tree: the refusals in their order, and the verdict.
 use rules::Answer;
+use rules::EVENT_COUNT;
 use rules::JUDGE_WORK;
 use rules::TREE_SIZE;
 use rules::Verdict;
 ghost use mathlib.Core.Path.{_≡_};
 ghost use mathlib.Core.List.{List};
-ghost use Prim.Native.Nat.{ℕ};
+ghost use Prim.Native.Nat.{ℕ, _≤_};
 ghost use lib.ListN.{length};
-ghost use Rattle.rules.specs.Calls.{judging, JudgeSays};
+ghost use Rattle.rules.specs.Heartbeats.{withoutHeartbeats};
+ghost use Rattle.rules.specs.Calls.{cleared, judging, JudgeSays};
+ghost use Rattle.judge_fits.specs.Fits.{Nodes, FitSays};
 ghost use Rattle.judge_call.specs.Verdicts.{dismissed};
 
 // A refusal as judging gives it.
@@ -52,7 +55,17 @@ fn accept(tree: &[u8], episode: &[u8], room: usize) -> Answer
     log_events::lent_episode(episode, 1)
 }
 
-// Judging: whether the tree has the episode.
+// Whether the tree of n entries has an episode without its heartbeats.
+fn fits(tree: &[u8], n: usize, episode: &[u8], work: &mut [u64]) -> bool
+    requires { ⌜ (length (now episode) ≤ 63) × Nodes (now tree) (withoutHeartbeats (now episode)) (now work) n ⌝ }
+    ensures { λ r. ⌜ FitSays (now (tree .entry)) n (withoutHeartbeats (now (episode .entry))) r × (now (work .exit) ≡ cleared 8128 (now (work .entry))) ⌝ }
+{
+    let mut events = [0u8; EVENT_COUNT];
+    let count = judge_events::copy_events(episode, &mut events);
+    judge_fits::fits(tree, n, &events[..count], work)
+}
+
+// Judging: whether the tree has the episode, its heartbeats left out.
 pub fn judge(tree: &[u8], episode: &[u8], work: &mut [u64]) -> Verdict
     ensures { λ r. ⌜ JudgeSays (now (tree .entry)) (now (episode .entry)) (now (work .entry)) r (now (work .exit)) ⌝ }
 {
@@ -61,7 +74,7 @@ pub fn judge(tree: &[u8], episode: &[u8], work: &mut [u64]) -> Verdict
         return dismiss(answer);
     };
     let n = judge_subtrees::size_at(tree, 0);
-    if judge_fits::fits(tree, n, episode, work) {
+    if fits(tree, n, episode, work) {
         return Verdict::Fits;
     }
     Verdict::Misfit

@@ -1,5 +1,5 @@
 -- The codes of a tree's leaves, off its entries.
-use Prim.Native.Nat.{ℕ, zero, suc, _+_, _<_}
+use Prim.Native.Nat.{ℕ, zero, suc, _+_}
 use native.Mathlib.Nat.{add-zero, add-assoc, add-suc}
 use native.Mathlib.Numerals.{one-add}
 use native.Mathlib.Omega.{arith}
@@ -10,6 +10,7 @@ use mathlib.Core.Bool.{Bool, false, _||_, _&&_}
 use lib.Dec.{eqb, ltb}
 use borrow.Author.Tests.{eq-eqb, ne-eqb, lt-ltb}
 use Rattle.rules.specs.Words.{mem, Has}
+use Rattle.rules.specs.Heartbeats.{EventCode}
 use Rattle.rules.specs.Trees.{Tree, silent, leaf, node, Forest, none, more, size, sizes, labels, labelsAll}
 use Rattle.rules.specs.TreeBlock.{kindOf, kindAt, argumentAt}
 use Rattle.rules.specs.Holds.{Holds, HoldsAll}
@@ -55,14 +56,14 @@ module _ (b : List ℕ) where
 mutual
   unfolding labelled anyBelow
 
-  pub labelled-codes : (t : Tree) (b : List ℕ) (v c : ℕ) → Holds t b v → ((x : ℕ) → Has x (labels t) → x < codeCount) → labelled b v (size t) c ≡ mem c (labels t)
+  pub labelled-codes : (t : Tree) (b : List ℕ) (v c : ℕ) → Holds t b v → ((x : ℕ) → Has x (labels t) → EventCode codeCount x) → labelled b v (size t) c ≡ mem c (labels t)
   labelled-codes silent b v c h k = labelled-one b v c ∙ no-leaf b v 1 c (h .kind) (λ q. omega (arith, q))
   labelled-codes (leaf a) b v c h k =
       labelled-one b v c ∙ ap₂ (λ (t : Bool) (x : ℕ). t && (ltb x codeCount && eqb c x)) (eq-eqb (kindAt b v) 2 (h .kind)) (h .argument)
-      ∙ ap (λ (t : Bool). t && eqb c a) (lt-ltb a codeCount (k a (inl refl))) ∙ sym (or-off (eqb c a))
+      ∙ ap (λ (t : Bool). t && eqb c a) (lt-ltb a codeCount (k a (inl refl) .0)) ∙ sym (or-off (eqb c a))
   labelled-codes (node o f) b v c h k = labelled-over b v (sizes f) (kindOf o) c (h .0 .kind) (λ q. omega (arith, q, kind-low o)) ∙ labelled-all f b (v + 1) c (h .1) k
 
-  pub labelled-all : (f : Forest) (b : List ℕ) (v c : ℕ) → HoldsAll f b v → ((x : ℕ) → Has x (labelsAll f) → x < codeCount) → labelled b v (sizes f) c ≡ mem c (labelsAll f)
+  pub labelled-all : (f : Forest) (b : List ℕ) (v c : ℕ) → HoldsAll f b v → ((x : ℕ) → Has x (labelsAll f) → EventCode codeCount x) → labelled b v (sizes f) c ≡ mem c (labelsAll f)
   labelled-all none b v c h k = refl
   labelled-all (more t f) b v c h k =
       labelled-append b v (size t) (sizes f) c

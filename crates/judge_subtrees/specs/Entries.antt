@@ -1,11 +1,12 @@
 -- What judging asks of the entries of a tree block: each holds a well-formed tree, and a list of them ends where it should.
-use Prim.Native.Nat.{ℕ, _+_, _≤_, _<_}
+use Prim.Native.Nat.{ℕ, _+_, _≤_}
 use mathlib.Core.List.{List}
 use mathlib.Core.Path.{_≡_}
 use mathlib.Core.Bool.{Bool, _&&_}
 use lib.Dec.{eqb, ltb}
 use lib.ListN.{length}
 use Rattle.rules.specs.Words.{Has}
+use Rattle.rules.specs.Heartbeats.{EventCode}
 use Rattle.rules.specs.Trees.{Tree, Forest, size, sizes, labelsAll}
 use Rattle.rules.specs.WellFormed.{Distinct, WideAll, WellFormed}
 use Rattle.rules.specs.TreeBlock.{kindAt, argumentAt}
@@ -16,7 +17,7 @@ use Rattle.code_sets.specs.Bits.{anyBelow}
 -- a list of well-formed trees that have no code in common
 pub record WellFormedAll (m : ℕ) (f : Forest) : Type 0 where
   pub wide : WideAll f
-  pub coded : (c : ℕ) → Has c (labelsAll f) → c < m
+  pub coded : (c : ℕ) → Has c (labelsAll f) → EventCode m c
   pub distinct : Distinct (labelsAll f)
 
 -- entry v holds a well-formed tree that ends by `end`

@@ -8,14 +8,17 @@ use lib.ListN.{length, drop, take, length-append, length-drop}
 use lib.Seq.{take-append-le, drop-append-le, drop-append-add}
 use lib.Dec.{ltb}
 use borrow.Author.Tests.{lt-ltb, ltb-true, ltb-false}
+use Rattle.rules.specs.Words.{each}
+use Rattle.rules.specs.Heartbeats.{withoutHeartbeats}
 use Rattle.rules.specs.Mining.{graph}
 use Rattle.rules.specs.Union.{union}
 use Rattle.rules.specs.Refusals.{Given}
-use Rattle.rules.specs.LogBlock.{blocksAt, blockEpisodes, episodesFrom, logEpisodes, logSized}
+use Rattle.rules.specs.LogBlock.{blocksAt, blockEpisodes, episodesFrom, logEpisodes, logEvents, logSized}
 use Rattle.rules.specs.Calls.{codeCount, topCode, logSound, logReading}
 use Rattle.rules.specs.Filling.{blockAt}
 use Rattle.rules.specs.declared.Answer.the-variants.{Gives}
 use Rattle.rules.proofs.AnswerLaws.{given-is, demand-given}
+use Rattle.rules.proofs.ListLaws.{each-append}
 use Rattle.rules.proofs.LogSize.{Blocks, sized-blocks, blocks-sized}
 use Rattle.rules.proofs.Unions.{graph-joined}
 use Rattle.log_episodes.proofs.EpisodeLaws.{log-given, log-some}
@@ -98,9 +101,13 @@ module _ (w : ℕ) (a b : List ℕ) (accepted-a : Given (logReading w a)) (accep
       let y = blocks w b accepted-b in
       joined-episodes a b (x .count) (x .whole) w (y .count) (y .whole)
 
+  -- THEOREM: so with the events of each
+  pub accepted-events : logEvents w (a ++ b) ≡ logEvents w a ++ logEvents w b
+  accepted-events = ap (each withoutHeartbeats) accepted-episodes ∙ each-append withoutHeartbeats (logEpisodes w a) (logEpisodes w b)
+
   -- THEOREM: joined, their graph is the union of their graphs
-  pub accepted-graph : graph codeCount (logEpisodes w (a ++ b)) ≡ union codeCount (graph codeCount (logEpisodes w a)) (graph codeCount (logEpisodes w b))
-  accepted-graph = ap (graph codeCount) accepted-episodes ∙ graph-joined codeCount (logEpisodes w a) (logEpisodes w b)
+  pub accepted-graph : graph codeCount (logEvents w (a ++ b)) ≡ union codeCount (graph codeCount (logEvents w a)) (graph codeCount (logEvents w b))
+  accepted-graph = ap (graph codeCount) accepted-events ∙ graph-joined codeCount (logEvents w a) (logEvents w b)
 
   -- THEOREM: where they make at most 16 blocks they are an accepted log
   pub joined-accepted : 1 ≤ w → length a + length b ≤ 8192 → logReading w (a ++ b) ≡ Gives (length (a ++ b))

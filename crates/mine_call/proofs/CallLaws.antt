@@ -1,30 +1,33 @@
 -- The call: its refusals in their order, and what an accepted one leaves.
 use mathlib.Core.Path.{_≡_, sym, _∙_, ap, subst}
 use mathlib.Core.List.{List, _++_, append-nil}
-use mathlib.Core.Bool.{Bool, true, false}
+use mathlib.Core.Bool.{Bool, true, false, _&&_}
 use Prim.Native.Nat.{ℕ, zero, suc, _+_, _-_, _≤_, _<_}
 use native.Mathlib.Nat.{zero-add}
 use native.Mathlib.Omega.{arith}
 use lib.ListN.{length, drop, drop-of-length-le}
 use borrow.Author.Tests.{lt-leb, le-leb}
-use Rattle.rules.specs.Words.{Has, zeros}
+use lib.Dec.{ltb}
+use Rattle.rules.specs.Words.{Has, each, mem, zeros}
+use Rattle.rules.specs.Heartbeats.{withoutHeartbeats}
 use Rattle.rules.specs.Trees.{Tree, size}
-use Rattle.rules.specs.Mining.{Log, mined}
-use Rattle.rules.specs.LogBlock.{sealed, logSized, logEpisodes}
+use Rattle.rules.specs.Mining.{Log, isEmpty, mined}
+use Rattle.rules.specs.LogBlock.{sealed, logSized, logEvents}
 use Rattle.rules.specs.TreeBlock.{entries, treeBlock}
 use Rattle.rules.specs.Calls.{told, after, cleared, logSound, mining, treeOf, MineSays, codeCount}
 use Rattle.rules.specs.declared.Answer.{Answer}
 use Rattle.rules.specs.declared.Answer.the-variants.{Gives, Refused}
 use Rattle.rules.proofs.ListLaws.{has-each}
-use Rattle.rules.proofs.SameEpisodes.{Same, mined-same}
+use Rattle.rules.proofs.SameEpisodes.{Same, any-same, mined-same}
 use Rattle.rules.proofs.Occurring.{Below}
+use Rattle.rules.proofs.HeartbeatLaws.{events-below}
 use Rattle.mine_places.specs.Places.{placesIn, episodeOf, episodesOf, Recorded, Listed}
 use Rattle.mine_places.proofs.ListLaws.{all-has}
-use Rattle.mine_gather.specs.Gathering.{listedBy}
+use Rattle.mine_gather.specs.Gathering.{listedBy, Lists}
 use Rattle.rules.proofs.MinedTree.{mined-fits}
 use Rattle.mine_views.specs.declared.View.{View}
 use Rattle.mine_views.specs.Sublogs.{Sight, shown, sight, sublog, Tight, rootSight}
-use Rattle.mine_views.proofs.TightLaws.{root-tight, root-tree}
+use Rattle.mine_views.proofs.HeartbeatLaws.{quiet-tight, quiet-tree}
 use Rattle.mine_bases.specs.Writing.{laid}
 use Rattle.mine_nodes.specs.Ready.{Ready}
 
@@ -82,21 +85,30 @@ listed-below w log places l t m c k =
     all-has (λ x. x < codeCount) (episodeOf w log (h .0)) (r .events .codes) c (subst (Has c) (h .2) k)
 
 -- they have the tree of the log
-pub same-tree : (w : ℕ) (log : List ℕ) (n : ℕ) (work : List ℕ) → Same (listedBy w log n work) (logEpisodes w log) → mined codeCount (listedBy w log n work) ≡ treeOf w log
-same-tree w log n work s = mined-same codeCount (listedBy w log n work) (logEpisodes w log) s
+pub same-tree : (w : ℕ) (log : List ℕ) (n : ℕ) (work : List ℕ) → Lists w log n work → mined codeCount (each withoutHeartbeats (listedBy w log n work)) ≡ treeOf w log
+same-tree w log n work s = mined-same codeCount (each withoutHeartbeats (listedBy w log n work)) (logEvents w log) (s .same)
+
+-- every list of them has the root's view of the log
+root-same : (l k : Log) → Same l k → rootSight codeCount l ≡ rootSight codeCount k
+root-same l k s = λ i. record { kept = λ c. ltb c codeCount && any-same codeCount l k s (mem c) i; breaks = λ _. false; bare = any-same codeCount l k s isEmpty i }
+
+pub root-again : (w : ℕ) (log : List ℕ) (n k : ℕ) (work work′ : List ℕ) (met : Sight) → Lists w log n work → Lists w log k work′ →
+    met ≡ rootSight codeCount (each withoutHeartbeats (listedBy w log n work)) → met ≡ rootSight codeCount (each withoutHeartbeats (listedBy w log k work′))
+root-again w log n k work work′ met a b e =
+    e ∙ root-same (each withoutHeartbeats (listedBy w log n work)) (logEvents w log) (a .same) ∙ sym (root-same (each withoutHeartbeats (listedBy w log k work′)) (logEvents w log) (b .same))
 
 -- ---- the root
 
-module _ (l : Log) (small : Below codeCount l) (v : View) (sees : sight v ≡ rootSight codeCount l) where
-  pub root-mined : mined codeCount (sublog v l) ≡ mined codeCount l
-  root-mined = ap (λ (s : Sight). mined codeCount (shown s l)) sees ∙ root-tree codeCount l small
+module _ (l : Log) (small : Below codeCount l) (v : View) (sees : sight v ≡ rootSight codeCount (each withoutHeartbeats l)) where
+  pub root-mined : mined codeCount (sublog v l) ≡ mined codeCount (each withoutHeartbeats l)
+  root-mined = ap (λ (s : Sight). mined codeCount (shown s l)) sees ∙ quiet-tree codeCount l small
 
   pub root-ready : (tree : List ℕ) → length tree ≡ 512 → Ready l v tree 0
   root-ready tree long =
       record {
-        tight = subst (λ (s : Sight). Tight codeCount s l) (sym sees) (root-tight codeCount l small);
+        tight = subst (λ (s : Sight). Tight codeCount s l) (sym sees) (quiet-tight codeCount l small);
         long = long;
-        room = omega (arith, ap size root-mined, mined-fits codeCount l small (omega arith));
+        room = omega (arith, ap size root-mined, mined-fits codeCount (each withoutHeartbeats l) (events-below codeCount l small) (omega arith));
       }
 
 -- ---- the block

@@ -9,26 +9,26 @@ use lib.Dec.{leb}
 use Rattle.rules.specs.Trees.{Tree, size}
 use Rattle.rules.specs.Mining.{mined}
 use Rattle.rules.specs.Refusals.{Given, demand}
-use Rattle.rules.specs.LogBlock.{logSized, logEpisodes}
+use Rattle.rules.specs.LogBlock.{logSized, logEvents}
 use Rattle.rules.specs.TreeBlock.{treeBlock}
 use Rattle.rules.specs.Calls.{codeCount, told, after, cleared, logSound, logReading, mining, treeOf, MineSays}
 use Rattle.rules.specs.declared.Answer.{Answer}
 use Rattle.rules.specs.declared.Answer.the-variants.{Gives}
 use Rattle.rules.proofs.AnswerLaws.{given-is, demand-given}
 use Rattle.rules.proofs.Unions.{mined-order, mined-twice}
-use Rattle.log_episodes.proofs.JoinedLogs.{accepted-episodes, joined-accepted}
+use Rattle.log_episodes.proofs.JoinedLogs.{accepted-events, joined-accepted}
 
 -- ---- the trees
 
 -- THEOREM: the tree of two accepted logs joined is the same for either order
 pub tree-order : (w : ℕ) (a b : List ℕ) → Given (logReading w a) → Given (logReading w b) → treeOf w (a ++ b) ≡ treeOf w (b ++ a)
 tree-order w a b ga gb =
-    ap (mined codeCount) (accepted-episodes w a b ga gb) ∙ mined-order codeCount (logEpisodes w a) (logEpisodes w b)
-    ∙ ap (mined codeCount) (sym (accepted-episodes w b a gb ga))
+    ap (mined codeCount) (accepted-events w a b ga gb) ∙ mined-order codeCount (logEvents w a) (logEvents w b)
+    ∙ ap (mined codeCount) (sym (accepted-events w b a gb ga))
 
 -- THEOREM: and for a log joined to itself as for the log
 pub tree-twice : (w : ℕ) (a : List ℕ) → Given (logReading w a) → treeOf w (a ++ a) ≡ treeOf w a
-tree-twice w a ga = ap (mined codeCount) (accepted-episodes w a a ga ga) ∙ mined-twice codeCount (logEpisodes w a)
+tree-twice w a ga = ap (mined codeCount) (accepted-events w a a ga ga) ∙ mined-twice codeCount (logEvents w a)
 
 -- ---- the call
 

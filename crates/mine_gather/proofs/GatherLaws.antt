@@ -8,6 +8,7 @@ use native.Mathlib.Omega.{arith}
 use lib.ListN.{length, length-append}
 use lib.Seq.{sets, length-sets}
 use Rattle.rules.specs.Words.{Has, each}
+use Rattle.rules.specs.Heartbeats.{withoutHeartbeats}
 use Rattle.rules.specs.Mining.{Episode, Log}
 use Rattle.rules.proofs.SameEpisodes.{Same}
 use Rattle.rules.proofs.ListLaws.{has-append-left, has-append-right, has-append-cases, each-append}
@@ -34,8 +35,17 @@ module _ (w : ℕ) (log : List ℕ) where
         (has-append-cases t l (e ∷ later) (s .1 t h)),
   )
 
-  pub gather-known : (e : Episode) (n : ℕ) (work : List ℕ) → All (Recorded w log) (placesIn (listOf n work)) → Has e (listedBy w log n work) → Gathered w log (e ∷ []) [] n work n work
-  gather-known e n work a m = record { few = omega arith; size = refl; all = a; same = λ later whole s. known-same (listedBy w log n work) later whole e m s }
+  pub gather-known : (e : Episode) (n : ℕ) (work : List ℕ) → All (Recorded w log) (placesIn (listOf n work)) → Has (withoutHeartbeats e) (each withoutHeartbeats (listedBy w log n work)) → Gathered w log (e ∷ []) [] n work n work
+  gather-known e n work a m =
+      let l = listedBy w log n work in
+      record {
+        few = omega arith;
+        size = refl;
+        all = a;
+        same = λ later whole s.
+            subst (λ (k : Log). Same k whole) (sym (each-append withoutHeartbeats l later))
+            (known-same (each withoutHeartbeats l) (each withoutHeartbeats later) whole (withoutHeartbeats e) m (subst (λ (k : Log). Same k whole) (each-append withoutHeartbeats l (e ∷ later)) s));
+      }
 
   -- a place that is listed
   gather-listed : (at n : ℕ) (work work′ : List ℕ) → All (Recorded w log) (placesIn (listOf n work)) → Recorded w log at → length work′ ≡ length work
@@ -47,7 +57,7 @@ module _ (w : ℕ) (log : List ℕ) where
         few = omega arith;
         size = size;
         all = subst (All (Recorded w log)) (sym is) (all-append (Recorded w log) (placesIn (listOf n work)) at a r);
-        same = λ later whole s. subst (λ (l : Log). Same l whole) (sym (ap (λ (l : Log). l ++ later) more ∙ append-assoc (listedBy w log n work) (episodeOf w log at ∷ []) later)) s;
+        same = λ later whole s. subst (λ (l : Log). Same (each withoutHeartbeats l) whole) (sym (ap (λ (l : Log). l ++ later) more ∙ append-assoc (listedBy w log n work) (episodeOf w log at ∷ []) later)) s;
       }
 
   -- a place that is written to the list, alone or with a hint behind the list
@@ -74,11 +84,12 @@ module _ (w : ℕ) (log : List ℕ) where
         few = let f = g .few in let e = h .few in let l = length-append b rest in omega arith;
         size = h .size ∙ g .size;
         all = h .all;
-        same = λ later whole s. h .same (rest ++ later) whole (subst (λ (l : Log). Same (listedBy w log m work₁ ++ l) whole) (append-assoc b rest later) (g .same later whole s));
+        same = λ later whole s. h .same (rest ++ later) whole (subst (λ (l : Log). Same (each withoutHeartbeats (listedBy w log m work₁ ++ l)) whole) (append-assoc b rest later) (g .same later whole s));
       }
 
   -- the walk is over
-  pub gather-whole : (walked : Log) (work : List ℕ) (r : ℕ) (work′ : List ℕ) → Gathered w log walked [] 0 work r work′ → Same (listedBy w log r work′) walked
+  pub gather-whole : (walked : Log) (work : List ℕ) (r : ℕ) (work′ : List ℕ) → Gathered w log walked [] 0 work r work′ → Same (each withoutHeartbeats (listedBy w log r work′)) (each withoutHeartbeats walked)
   gather-whole walked work r work′ g =
-      subst (λ (l : Log). Same l walked) (append-nil (listedBy w log r work′))
-      (g .same [] walked (subst (λ (l : Log). Same l walked) (sym (append-nil walked)) ((λ t h. h), (λ t h. h))))
+      let whole = each withoutHeartbeats walked in
+      subst (λ (l : Log). Same (each withoutHeartbeats l) whole) (append-nil (listedBy w log r work′))
+      (g .same [] whole (subst (λ (l : Log). Same (each withoutHeartbeats l) whole) (sym (append-nil walked)) ((λ t h. h), (λ t h. h))))

@@ -4,3 +4,4 @@ pub mod PartLaws
 pub mod PieceLaws
 pub mod TightLaws
 pub mod OperatorLaws
+pub mod HeartbeatLaws

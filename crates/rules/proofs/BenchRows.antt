@@ -1,8 +1,9 @@
--- Rows M1 to M12 of the bench sheet, logs that tell each rule from its near misses, and the two worked logs of 000.
+-- Rows M1 to M12 of the bench sheet, logs that tell each rule from its near misses, logs with heartbeats, and the two worked logs of 000.
 use mathlib.Core.Path.{_≡_, refl}
 use mathlib.Core.List.{List, [], _∷_}
 use Prim.Native.Nat.{ℕ}
 use Rattle.rules.specs.Words.{each}
+use Rattle.rules.specs.Heartbeats.{withoutHeartbeats}
 use Rattle.rules.specs.Trees.{Op, choice, sequence, parallel, loop, Tree, silent, leaf, node, none, more}
 use Rattle.rules.specs.Mining.{Log, mined, mine, build, shape, shapeOf, cutOr, orElse, split, project, loopParts, bodyPart, redoParts, isRedo, parallelParts, madeParts, sequenceParts, choiceParts, components, join, through, reach, graph, tabled, tableOf, occurring, flowerOf}
 use Rattle.rules.specs.Calls.{codeCount}
@@ -120,6 +121,29 @@ further =
 pub further-right : each (λ r. mined codeCount (r .log)) further ≡ each (λ r. r .tree) further
 unfolding mined mine build shape shapeOf cutOr orElse split project loopParts bodyPart redoParts isRedo parallelParts madeParts sequenceParts choiceParts components join through reach graph tabled tableOf occurring further
 further-right = refl
+
+-- episodes as stored, with heartbeats in them
+unfoldable pub beating : List Row
+beating =
+    -- at the start, between two events, which still makes their pair, and at the end
+    record { log = (31 ∷ a ∷ b ∷ []) ∷ []; tree = two sequence (leaf a) (leaf b) }
+    ∷ record { log = (a ∷ 31 ∷ b ∷ []) ∷ []; tree = two sequence (leaf a) (leaf b) }
+    ∷ record { log = (a ∷ b ∷ 31 ∷ []) ∷ []; tree = two sequence (leaf a) (leaf b) }
+    -- alone, an empty episode, and beside others
+    ∷ record { log = (31 ∷ 31 ∷ []) ∷ []; tree = silent }
+    ∷ record { log = (31 ∷ []) ∷ (a ∷ []) ∷ []; tree = flowerOf (a ∷ []) }
+    -- between the two events of a repetition, which is still one
+    ∷ record { log = (a ∷ 31 ∷ a ∷ []) ∷ []; tree = flowerOf (a ∷ []) }
+    -- two records that differ in heartbeats alone
+    ∷ record { log = (31 ∷ a ∷ []) ∷ (a ∷ 31 ∷ []) ∷ []; tree = leaf a }
+    -- the code before it is an event like others
+    ∷ record { log = (30 ∷ 31 ∷ []) ∷ []; tree = leaf 30 }
+    ∷ []
+
+-- THEOREM: their trees
+pub beating-right : each (λ r. mined codeCount (each withoutHeartbeats (r .log))) beating ≡ each (λ r. r .tree) beating
+unfolding mined mine build shape shapeOf cutOr orElse split project loopParts bodyPart redoParts isRedo parallelParts madeParts sequenceParts choiceParts components join through reach graph tabled tableOf occurring withoutHeartbeats beating
+beating-right = refl
 
 -- the running example of section 6.3
 unfoldable pub running : Row

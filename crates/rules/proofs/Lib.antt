@@ -14,6 +14,7 @@ pub mod ByteLaws
 pub mod LogSize
 pub mod Distinct
 pub mod Occurring
+pub mod HeartbeatLaws
 pub mod Components
 pub mod Peeling
 pub mod GraphLaws

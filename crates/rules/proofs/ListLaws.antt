@@ -165,6 +165,14 @@ module _ {A : Type 0} where
   keep-append p [] ys = refl
   keep-append p (x ∷ xs) ys = ap (push (p x) x) (keep-append p xs ys) ∙ push-append (p x) x (keep p xs) (keep p ys)
 
+pub length-push : {A : Type 0} (b : Bool) (x : A) (xs : List A) → length (push b x xs) ≤ suc (length xs)
+length-push true x xs = omega arith
+length-push false x xs = omega arith
+
+pub length-keep : {A : Type 0} (p : A → Bool) (xs : List A) → length (keep p xs) ≤ length xs
+length-keep p [] = omega arith
+length-keep p (x ∷ xs) = omega (arith, length-keep p xs, length-push (p x) x (keep p xs))
+
 pub any-append : {A : Type 0} (p : A → Bool) (xs ys : List A) → any p (xs ++ ys) ≡ (any p xs || any p ys)
 any-append p [] ys = refl
 any-append p (x ∷ xs) ys = ap (_||_ (p x)) (any-append p xs ys) ∙ sym (or-assoc (p x) (any p xs) (any p ys))

@@ -7,8 +7,9 @@ use mathlib.Core.Bool.{false}
 use Prim.Native.Nat.{ℕ, zero, suc, _+_, _*_, _≤_, _<_}
 use native.Mathlib.Omega.{arith}
 use lib.Dec.{ltb, eqb}
-use borrow.Author.Tests.{lt-ltb, le-ltb, eq-eqb, ne-eqb, ltb-true, ltb-false, eqb-true}
+use borrow.Author.Tests.{lt-ltb, le-ltb, eq-eqb, ne-eqb, ltb-true, ltb-false, eqb-true, eqb-false}
 use Rattle.rules.specs.Words.{Has, pick, mem}
+use Rattle.rules.specs.Heartbeats.{heartbeat, EventCode}
 use Rattle.rules.specs.Trees.{Tree, silent, leaf, node, Forest, none, more, size, sizes, children, labels, labelsAll}
 use Rattle.rules.specs.WellFormed.{Wide, WideAll}
 use Rattle.rules.specs.TreeBlock.{operatorOf, Sound, upto, broken, kindOf, kindAt, argumentAt, sizeAt, zeroAt, silentRule, leafRule, sizedRule, followedBy, entryRule, nodeAt, listAt}
@@ -22,11 +23,11 @@ use Rattle.rules.proofs.Fresh.{onto, Fresh, onto-append, fresh-append, 
 module _ (limit m : ℕ) (b : List ℕ) where
   -- ---- what the rules pass
 
-  -- the entries from a place up to `next` hold the tree, its codes below m and none of them seen before
+  -- the entries from a place up to `next` hold the tree, its codes those of events and none of them seen before
   pub record TreeHeld (at : ℕ) (seen : List ℕ) (next : ℕ) (grown : List ℕ) (t : Tree) : Type 0 where
     pub held : Holds t b at
     pub wide : Wide t
-    pub coded : (c : ℕ) → Has c (labels t) → c < m
+    pub coded : (c : ℕ) → Has c (labels t) → EventCode m c
     pub fresh : Fresh (labels t) seen
     pub grows : grown ≡ onto (labels t) seen
     pub ends : next ≡ at + size t
@@ -36,7 +37,7 @@ module _ (limit m : ℕ) (b : List ℕ) where
     pub count : children f ≡ n
     pub held : HoldsAll f b at
     pub wide : WideAll f
-    pub coded : (c : ℕ) → Has c (labelsAll f) → c < m
+    pub coded : (c : ℕ) → Has c (labelsAll f) → EventCode m c
     pub fresh : Fresh (labelsAll f) seen
     pub grows : grown ≡ onto (labelsAll f) seen
     pub ends : next ≡ at + sizes f
@@ -70,19 +71,20 @@ module _ (limit m : ℕ) (b : List ℕ) where
     leaf-found : kindAt b at ≡ 2 → NodeFound at seen (leafRule m at (argumentAt b at) (sizeAt b at) seen)
     leaf-found k =
         pick-case (NodeFound at seen) (ltb (argumentAt b at) m) (λ a.
+        pick-case (NodeFound at seen) (eqb (argumentAt b at) heartbeat) (λ _. tt) (λ beat.
         pick-case (NodeFound at seen) (eqb (sizeAt b at) 1) (λ s.
         pick-case (NodeFound at seen) (mem (argumentAt b at) seen) (λ _. tt) (λ new. (
           leaf (argumentAt b at),
           record {
             held = record { kind = k; argument = refl; size = eqb-true _ _ s; zero = z };
             wide = tt;
-            coded = λ c n. ⊎-elim (λ e. rw e (ltb-true _ _ a)) (λ e. absurd e) n;
+            coded = λ c n. ⊎-elim (λ e. rw e (ltb-true _ _ a, eqb-false _ _ beat)) (λ e. absurd e) n;
             fresh = (new, tt);
             grows = refl;
             ends = refl;
             fits = omega arith;
           },
-        ))) (λ _. tt)) (λ _. tt)
+        ))) (λ _. tt))) (λ _. tt)
 
     sized-found : 3 ≤ kindAt b at → kindAt b at ≤ 6 → 2 ≤ argumentAt b at → (x : Sound) → ListFound (at + 1) (argumentAt b at) seen x → NodeFound at seen (sizedRule at (sizeAt b at) x)
     sized-found low high two (upto next grown) (f, below) =
@@ -187,8 +189,8 @@ module _ (limit m : ℕ) (b : List ℕ) where
     rule-silent : EntryIs b at 1 0 1 → pick (ltb at limit) (entryRule m b at seen below) broken ≡ upto (at + 1) seen
     rule-silent e = simp (lt-ltb _ _ h, e .zero, e .kind, e .argument, e .size)
 
-    rule-leaf : (a : ℕ) → EntryIs b at 2 a 1 → a < m → mem a seen ≡ false → pick (ltb at limit) (entryRule m b at seen below) broken ≡ upto (at + 1) (a ∷ seen)
-    rule-leaf a e k new = simp (lt-ltb _ _ h, e .zero, e .kind, e .argument, e .size, lt-ltb _ _ k, new)
+    rule-leaf : (a : ℕ) → EntryIs b at 2 a 1 → EventCode m a → mem a seen ≡ false → pick (ltb at limit) (entryRule m b at seen below) broken ≡ upto (at + 1) (a ∷ seen)
+    rule-leaf a e k new = simp (lt-ltb _ _ h, e .zero, e .kind, e .argument, e .size, lt-ltb _ _ (k .0), ne-eqb _ _ (k .1), new)
 
     rule-operator : (k n s : ℕ) → EntryIs b at k n s → 3 ≤ k → k ≤ 6 → 2 ≤ n → pick (ltb at limit) (entryRule m b at seen below) broken ≡ sizedRule at s (below n)
     rule-operator k n s e low high two =
@@ -212,7 +214,7 @@ module _ (limit m : ℕ) (b : List ℕ) where
     unfolding nodeAt listAt
 
     -- THEOREM: a tree that the block holds, well formed and within the limit, passes the rule for a node, at every depth of twice its size or more
-    pub node-passes : (t : Tree) (f at : ℕ) (seen : List ℕ) → Holds t b at → Wide t → ((c : ℕ) → Has c (labels t) → c < m) → Fresh (labels t) seen →
+    pub node-passes : (t : Tree) (f at : ℕ) (seen : List ℕ) → Holds t b at → Wide t → ((c : ℕ) → Has c (labels t) → EventCode m c) → Fresh (labels t) seen →
         at + size t ≤ limit → 2 * size t ≤ f → nodeAt limit m f b at seen ≡ upto (at + size t) (onto (labels t) seen)
     node-passes silent zero at seen held wide coded fresh fits deep = absurd (omega arith)
     node-passes silent (suc f) at seen held wide coded fresh fits deep = rule-silent at seen (omega arith) (λ n. listAt limit m f b (at + 1) n seen) held
@@ -227,7 +229,7 @@ module _ (limit m : ℕ) (b : List ℕ) where
         (list-passes ts f (at + 1) seen (held .1) (wide .1) coded fresh (omega arith) (omega arith)
         ∙ ap (λ (n : ℕ). upto n (onto (labelsAll ts) seen)) (let g : at + 1 + sizes ts ≡ at + suc (sizes ts) = omega arith in g)) refl
 
-    pub list-passes : (ts : Forest) (f at : ℕ) (seen : List ℕ) → HoldsAll ts b at → WideAll ts → ((c : ℕ) → Has c (labelsAll ts) → c < m) → Fresh (labelsAll ts) seen →
+    pub list-passes : (ts : Forest) (f at : ℕ) (seen : List ℕ) → HoldsAll ts b at → WideAll ts → ((c : ℕ) → Has c (labelsAll ts) → EventCode m c) → Fresh (labelsAll ts) seen →
         at + sizes ts ≤ limit → 2 * sizes ts + 1 ≤ f → listAt limit m f b at (children ts) seen ≡ upto (at + sizes ts) (onto (labelsAll ts) seen)
     list-passes none zero at seen held wide coded fresh fits deep = absurd (omega arith)
     list-passes none (suc f) at seen held wide coded fresh fits deep = ap (λ (n : ℕ). upto n seen) (let g : at ≡ at + 0 = omega arith in g)

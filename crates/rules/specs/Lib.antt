@@ -1,4 +1,5 @@
 pub mod Words
+pub mod Heartbeats
 pub mod Trees
 pub mod WellFormed
 pub mod Mining

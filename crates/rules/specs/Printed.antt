@@ -4,6 +4,7 @@ use mathlib.Core.List.{List, [], _∷_}
 use mathlib.Core.Bool.{Bool, true, false}
 use Prim.Native.Nat.{ℕ}
 use lib.ListN.{take, drop}
+use Rattle.rules.specs.Heartbeats.{withoutHeartbeats}
 use Rattle.rules.specs.Trees.{Tree, size, In}
 use Rattle.rules.specs.Refusals.{andThen}
 use Rattle.rules.specs.LogBlock.{logEpisodes}
@@ -34,12 +35,12 @@ abbrev pub Tells : Bool → Type 0 → Type 0
 Tells true A = A
 Tells false A = A → ⊥
 
--- a test for each episode, in their order, tells whether the tree has it
+-- a test for each episode, in their order, tells whether the tree has it, its heartbeats left out
 abbrev pub Told : Tree → List (List ℕ) → List Bool → Type 0
 Told t [] [] = Unit {0}
 Told t [] (f ∷ fs) = ⊥
 Told t (e ∷ es) [] = ⊥
-Told t (e ∷ es) (f ∷ fs) = Tells f (In t e) × Told t es fs
+Told t (e ∷ es) (f ∷ fs) = Tells f (In t (withoutHeartbeats e)) × Told t es fs
 
 -- a line for each test, counted from 1
 pub record VerdictsOf (t : Tree) (log text : List ℕ) : Type 0 where

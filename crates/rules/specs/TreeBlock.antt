@@ -5,6 +5,7 @@ use Prim.Native.Nat.{ℕ, zero, suc, _+_, _-_, _*_}
 use lib.ListN.{length, getD}
 use lib.Dec.{ltb, eqb}
 use Rattle.rules.specs.Words.{pick, mem, zeros}
+use Rattle.rules.specs.Heartbeats.{heartbeat}
 use Rattle.rules.specs.Trees.{Op, choice, sequence, parallel, loop, Tree, silent, leaf, node, Forest, none, more, size, sizes, children}
 use Rattle.rules.specs.LogBlock.{sealed}
 use Rattle.rules.specs.declared.Operator.{Operator}
@@ -70,10 +71,10 @@ zeroAt b v = getD b (v * 4 + 3) 0
 abbrev pub silentRule : ℕ → ℕ → ℕ → List ℕ → Sound
 silentRule at argument size seen = pick (eqb argument 0) (pick (eqb size 1) (upto (at + 1) seen) broken) broken
 
--- an activity: a code below m that no leaf before it has, size 1
+-- an activity: a code below m, no heartbeat, that no leaf before it has, size 1
 abbrev pub leafRule : ℕ → ℕ → ℕ → ℕ → List ℕ → Sound
 leafRule m at argument size seen =
-    pick (ltb argument m) (pick (eqb size 1) (pick (mem argument seen) broken (upto (at + 1) (argument ∷ seen))) broken) broken
+    pick (ltb argument m) (pick (eqb argument heartbeat) broken (pick (eqb size 1) (pick (mem argument seen) broken (upto (at + 1) (argument ∷ seen))) broken)) broken
 
 -- an operator, of two children or more, ends where its size says
 abbrev pub sizedRule : ℕ → ℕ → Sound → Sound

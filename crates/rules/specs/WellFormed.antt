@@ -1,8 +1,9 @@
--- Well-formed trees in the page's words: each operator has at least 2 children, and no code labels two leaves.
+-- Well-formed trees in the page's words: each operator has at least 2 children, no code labels two leaves, and no leaf is a heartbeat.
 -- m is the number of codes.
 use mathlib.Core.List.{List, [], _∷_}
-use Prim.Native.Nat.{ℕ, _<_}
+use Prim.Native.Nat.{ℕ}
 use Rattle.rules.specs.Words.{Has}
+use Rattle.rules.specs.Heartbeats.{EventCode}
 use Rattle.rules.specs.Trees.{Tree, silent, leaf, node, Forest, none, more, labels}
 
 -- no number stands twice
@@ -29,5 +30,5 @@ abbrev mutual
 
 pub record WellFormed (m : ℕ) (t : Tree) : Type 0 where
   pub wide : Wide t
-  pub coded : (c : ℕ) → Has c (labels t) → c < m
+  pub coded : (c : ℕ) → Has c (labels t) → EventCode m c
   pub distinct : Distinct (labels t)

@@ -34,14 +34,17 @@ pub const PARALLEL: u8 = 5;
 
 pub const LOOP: u8 = 6;
 
-// The largest code, the number of codes, and what stands where there is no code.
+// The largest code, the number of codes, the heartbeat among them, and what stands where there is no code.
 pub const TOP_CODE: u8 = 31;
 
 pub const CODE_COUNT: usize = 32;
 
 pub const NO_CODE: u8 = 32;
 
-// The most events of an episode, and the places before, between and after them.
+// The code that mining and judging leave out.
+pub const HEARTBEAT: u8 = 31;
+
+// The most events of an episode, heartbeats counted, and the places before, between and after them.
 pub const EVENT_COUNT: usize = 63;
 
 pub const PLACE_COUNT: usize = 64;

@@ -12,6 +12,7 @@ use Rattle.rules.specs.Words.{pick}
 use Rattle.rules.specs.Trees.{Tree, In}
 use Rattle.rules.specs.TreeBlock.{treeBlock}
 use Rattle.rules.specs.Refusals.{Given}
+use Rattle.rules.specs.Heartbeats.{withoutHeartbeats}
 use Rattle.rules.specs.LogBlock.{logSized, logEpisodes}
 use Rattle.rules.specs.Calls.{logSound, logReading, checking}
 use Rattle.rules.specs.Listing.{refusalLine, verdictLines}
@@ -141,7 +142,7 @@ told-one t [] [] (g ∷ gs) a c = absurd c
 told-one t [] (f ∷ fs) gs a c = absurd a
 told-one t (e ∷ es) [] gs a c = absurd a
 told-one t (e ∷ es) (f ∷ fs) [] a c = absurd c
-told-one t (e ∷ es) (f ∷ fs) (g ∷ gs) a c = λ i. tells-one (In t e) f g (a .0) (c .0) i ∷ told-one t es fs gs (a .1) (c .1) i
+told-one t (e ∷ es) (f ∷ fs) (g ∷ gs) a c = λ i. tells-one (In t (withoutHeartbeats e)) f g (a .0) (c .0) i ∷ told-one t es fs gs (a .1) (c .1) i
 
 -- THEOREM: the verdicts of a tree on a log make one text
 pub verdicts-one : (t : Tree) (log s s′ : List ℕ) → VerdictsOf t log s → VerdictsOf t log s′ → s ≡ s′

@@ -7,7 +7,7 @@ use lib.ListN.{length, drop}
 use lib.Seq.{drop-length}
 use borrow.Author.Tests.{le-leb}
 use Rattle.rules.specs.Trees.{size}
-use Rattle.rules.specs.LogBlock.{logSized, logEpisodes}
+use Rattle.rules.specs.LogBlock.{logSized, logEpisodes, logEvents}
 use Rattle.rules.specs.TreeBlock.{treeBlock}
 use Rattle.rules.specs.Calls.{codeCount, told, after, logSound, logReading, mining, treeOf, MineSays, entryCount}
 use Rattle.rules.specs.Listing.{listing, refusalLine}
@@ -15,6 +15,7 @@ use Rattle.rules.specs.Printed.{minedBy, minedText}
 use Rattle.rules.specs.declared.Answer.{Answer}
 use Rattle.rules.specs.declared.Answer.the-variants.{Gives, Refused}
 use Rattle.rules.proofs.AnswerLaws.{demand-given}
+use Rattle.rules.proofs.HeartbeatLaws.{events-below}
 use Rattle.rules.proofs.MinedTree.{mined-fits}
 use Rattle.log_episodes.proofs.EpisodeLaws.{log-codes}
 use Rattle.text_writing.specs.Writing.{Wrote}
@@ -47,7 +48,7 @@ module _ (log out work : List ℕ) (r : Answer) (out′ work′ : List ℕ) (say
   unfolding logReading
   few n e =
       let sound = demand-given (logSized log) 1 0 (logSound 1 log) n e .1 in
-      omega (arith, mined-fits codeCount (logEpisodes 1 log) (log-codes 1 log n (omega arith) sound) (omega arith))
+      omega (arith, mined-fits codeCount (logEvents 1 log) (events-below codeCount (logEpisodes 1 log) (log-codes 1 log n (omega arith) sound)) (omega arith))
 
   pub mined-listable : Listable r
   mined-listable = go (mining 1 log out work) refl (says .answer)

@@ -6,6 +6,7 @@ use Prim.Native.Nat.{ℕ, suc, _+_, _-_, _*_, _≤_, _<_}
 use native.Mathlib.Omega.{arith}
 use lib.ListN.{length, getD, length-append}
 use Rattle.rules.specs.Words.{part}
+use Rattle.rules.specs.Heartbeats.{withoutHeartbeats}
 use Rattle.rules.specs.Trees.{Tree, In}
 use Rattle.rules.specs.TreeBlock.{treeBlock}
 use Rattle.rules.specs.Refusals.{Given}
@@ -84,12 +85,12 @@ pub verdict-said : {b e work work′ old new : List ℕ} {v : Verdict} {f : Bool
 unfolding verdictLines
 verdict-said {b} {e} {work} {work′} {old} {new} {v} {f} {n} {at} {r} g l room says is w =
     let j = given-is (judging b e work) (judging-given b e work g l room) in
-    let judged : (t : Tree) → treeBlock t ≡ b → Judged t e v = subst (λ (x : Answer). VerdictOf x b e v) (j .1) (says .verdict) in
+    let judged : (t : Tree) → treeBlock t ≡ b → Judged t (withoutHeartbeats e) v = subst (λ (x : Answer). VerdictOf x b e v) (j .1) (says .verdict) in
     record {
       said = f ∷ [];
       count = refl;
       wrote = subst (λ (s : List ℕ). Wrote 13 old at s new r) (sym (append-nil (verdictLine n f))) w;
-      right = λ t block fs h. (subst (λ (x : Bool). Tells x (In t e)) (sym is) (tells t e v (judged t block)), h);
+      right = λ t block fs h. (subst (λ (x : Bool). Tells x (In t (withoutHeartbeats e))) (sym is) (tells t (withoutHeartbeats e) v (judged t block)), h);
     }
 
 -- ---- the turns of the walks

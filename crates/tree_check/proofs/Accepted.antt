@@ -22,6 +22,7 @@ use Rattle.rules.proofs.TreeBlockLaws.{zeros-length, filled, payload, filled-le
 use Rattle.rules.proofs.ByteLaws.{bytes-append, bytes-at, bytes-zeros, entries-bytes}
 use Rattle.rules.proofs.FormedLaws.{EmptyAfter, FormedTree, formed-tree, tree-formed}
 use Rattle.rules.proofs.Occurring.{Below}
+use Rattle.rules.proofs.HeartbeatLaws.{Quiet}
 use Rattle.rules.proofs.MinedTree.{mined-wellFormed, mined-fits}
 use Rattle.block_seal.proofs.CheckLaws.{sealed-bytes, sealed-right}
 use Rattle.block_padding.proofs.PaddingLaws.{unset-zero, zero-unset}
@@ -85,7 +86,7 @@ module _ (t : Tree) (w : WellFormed codeCount t) (h : size t ≤ entryCount) whe
   filled-bytes : (i : ℕ) → getD (filled t) i 0 < 256
   filled-bytes =
       bytes-at (filled t)
-      (bytes-append (entries t) (zeros (512 - length (entries t))) (entries-bytes t (λ c m. let k = w .coded c m in omega arith) (omega arith))
+      (bytes-append (entries t) (zeros (512 - length (entries t))) (entries-bytes t (λ c m. omega (arith, w .coded c m .0)) (omega arith))
       (bytes-zeros (512 - length (entries t))))
 
   pub block-bytes : (i : ℕ) → getD (treeBlock t) i 0 < 256
@@ -125,8 +126,8 @@ tree-accepted b n t a = ap checking (sym (a .block)) ∙ block-accepted t (a .we
 pub accepted-one : (b : List ℕ) (n : ℕ) (t u : Tree) → Accepted b n t → treeBlock u ≡ b → t ≡ u
 accepted-one b n t u a e = block-one t u (a .fits) (a .block ∙ sym e)
 
--- THEOREM: checking accepts the block of a mined tree with its number of nodes
-pub mined-accepted : (l : Log) → Below codeCount l → checking (treeBlock (mined codeCount l)) ≡ Gives (size (mined codeCount l))
-mined-accepted l s =
+-- THEOREM: checking accepts the block of a tree mined without heartbeats, with its number of nodes
+pub mined-accepted : (l : Log) → Below codeCount l → Quiet l → checking (treeBlock (mined codeCount l)) ≡ Gives (size (mined codeCount l))
+mined-accepted l s q =
     let h = mined-fits codeCount l s (omega arith) in
-    block-accepted (mined codeCount l) (mined-wellFormed codeCount l s) (omega arith)
+    block-accepted (mined codeCount l) (mined-wellFormed codeCount l s q) (omega arith)

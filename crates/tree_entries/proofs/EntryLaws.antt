@@ -6,6 +6,7 @@ use Prim.Native.Nat.{ℕ, _+_, _≤_, _<_}
 use lib.Dec.{ltb, eqb}
 use borrow.Author.Tests.{lt-ltb, le-ltb, eq-eqb, ne-eqb}
 use Rattle.rules.specs.Words.{mem}
+use Rattle.rules.specs.Heartbeats.{heartbeat}
 use Rattle.rules.specs.TreeBlock.{kindAt, argumentAt, sizeAt, zeroAt, silentRule, leafRule}
 use Rattle.rules.specs.Calls.{codeCount, entryCount}
 use Rattle.rules.proofs.BoolLaws.{or-comm}
@@ -36,13 +37,16 @@ module _ (at argument size : ℕ) (seen : CodeSet) where
   pub leaf-above : codeCount ≤ argument → LeafSays at seen (leafRule codeCount at argument size) Broken
   leaf-above a = record { after = tt; is = λ l s. simp (le-ltb _ _ a) tt }
 
-  module _ (a : argument < codeCount) where
+  pub leaf-heartbeat : argument < codeCount → argument ≡ heartbeat → LeafSays at seen (leafRule codeCount at argument size) Broken
+  leaf-heartbeat a e = record { after = tt; is = λ l s. simp (lt-ltb _ _ a, eq-eqb _ _ e) tt }
+
+  module _ (a : argument < codeCount) (n : argument ≡ heartbeat → ⊥) where
     pub leaf-size : (size ≡ 1 → ⊥) → LeafSays at seen (leafRule codeCount at argument size) Broken
-    leaf-size z = record { after = tt; is = λ l s. simp (lt-ltb _ _ a, ne-eqb _ _ z) tt }
+    leaf-size z = record { after = tt; is = λ l s. simp (lt-ltb _ _ a, ne-eqb _ _ n, ne-eqb _ _ z) tt }
 
     module _ (z : size ≡ 1) where
       pub leaf-again : has (seen .bits) argument ≡ true → LeafSays at seen (leafRule codeCount at argument size) Broken
-      leaf-again e = record { after = tt; is = λ l s. simp (lt-ltb _ _ a, eq-eqb _ _ z, sym (s argument) ∙ e) tt }
+      leaf-again e = record { after = tt; is = λ l s. simp (lt-ltb _ _ a, ne-eqb _ _ n, eq-eqb _ _ z, sym (s argument) ∙ e) tt }
 
       pub leaf-here : (grown : CodeSet) → has (seen .bits) argument ≡ false → at < entryCount →
           ((i : ℕ) → has (grown .bits) i ≡ (has (seen .bits) i || (ltb argument codeCount && eqb i argument))) →
@@ -50,7 +54,7 @@ module _ (at argument size : ℕ) (seen : CodeSet) where
       leaf-here grown e h w =
           record {
             after = refl;
-            is = λ l s. simp (lt-ltb _ _ a, eq-eqb _ _ z, sym (s argument) ∙ e) (refl, same-with seen grown argument l a s w);
+            is = λ l s. simp (lt-ltb _ _ a, ne-eqb _ _ n, eq-eqb _ _ z, sym (s argument) ∙ e) (refl, same-with seen grown argument l a s w);
           }
 
 -- ---- an entry

@@ -3,6 +3,7 @@ use code_sets::CodeSet;
 use rules::ACTIVITY;
 use rules::CHOICE;
 use rules::ENTRY_COUNT;
+use rules::HEARTBEAT;
 use rules::LOOP;
 use rules::NO_CODE;
 use rules::SILENT;
@@ -41,12 +42,15 @@ fn silent(at: usize, argument: u8, size: u8, seen: CodeSet) -> Checked
     }
 }
 
-// A code that no leaf before it has.
+// A code, no heartbeat, that no leaf before it has.
 fn leaf(at: usize, argument: u8, size: u8, seen: CodeSet) -> Checked
     requires { ⌜ at < entryCount ⌝ }
     ensures { λ r. ⌜ LeafSays at seen (leafRule codeCount at argument size) r ⌝ }
 {
     if NO_CODE <= argument {
+        return Checked::Broken;
+    }
+    if argument == HEARTBEAT {
         return Checked::Broken;
     }
     if size != 1 {

@@ -5,11 +5,13 @@
 //! `reference mine` and `reference judge` are two such commands. The last line counts the inputs; the exit status is 1 if one failed.
 
 use independent::block::BLOCK;
-use independent::generate::damage::{damage_log_block, damage_tree, LOG_DAMAGES, TREE_DAMAGES};
+use independent::generate::damage::{damage_log_block, damage_tree, TreeDamage, LOG_DAMAGES, TREE_DAMAGES};
+use independent::generate::heartbeats::{alone, put_some, PLACES};
 use independent::generate::logs::{any_episode, any_episodes, full_log, packed_log, tree_episodes};
 use independent::generate::random::Random;
 use independent::generate::trees::{short_episode, some_codes, some_tree};
 use independent::listing::{judging_output, mining_output};
+use independent::log::{episodes_of, EVENT_CODES};
 use independent::tree::Tree;
 use std::io::Write;
 use std::process::{Command, ExitCode, Stdio};
@@ -67,6 +69,17 @@ fn some_log(random: &mut Random) -> Vec<u8> {
     packed_log(tree_episodes(random, &tree, 30))
 }
 
+/// Episodes of a tree with heartbeats at each kind of place, and a record of heartbeats alone.
+fn beating_log(random: &mut Random, tree: &Tree) -> Vec<u8> {
+    let mut episodes = Vec::new();
+    for place in PLACES {
+        let events = short_episode(random, tree, 3);
+        episodes.push(put_some(random, &events, place));
+    }
+    episodes.push(alone(random.between(1, 63)));
+    packed_log(episodes)
+}
+
 fn damaged_log(random: &mut Random) -> Vec<u8> {
     let longest = random.between(1, 9);
     let mut log = full_log(random, 3, |random| any_episode(random, 32, longest));
@@ -85,8 +98,16 @@ fn mining_inputs(random: &mut Random) -> Vec<Vec<u8>> {
         inputs.push(packed_log(any_episodes(random, 4, 3, 4)));
         inputs.push(damaged_log(random));
     }
+    for count in (1..=EVENT_CODES).step_by(6) {
+        let codes = some_codes(random, count);
+        let tree = some_tree(random, &codes);
+        let beating = beating_log(random, &tree);
+        let events = episodes_of(&beating).expect("a sound log");
+        inputs.extend([beating, packed_log(events)]);
+    }
+    inputs.push(packed_log(vec![alone(63)]));
     for _ in 0..4 {
-        let codes = some_codes(random, 32);
+        let codes = some_codes(random, EVENT_CODES);
         let tree = some_tree(random, &codes);
         inputs.push(full_log(random, 16, |random| short_episode(random, &tree, 4)));
     }
@@ -103,6 +124,10 @@ fn judging_inputs(random: &mut Random) -> Vec<Vec<u8>> {
         let sound = tree.block();
         inputs.push([&sound[..], &packed_log(tree_episodes(random, &tree, 20))].concat());
         inputs.push([&sound[..], &some_log(random)].concat());
+        inputs.push([&sound[..], &beating_log(random, &tree)].concat());
+        let mut beating = sound;
+        damage_tree(random, &mut beating, TreeDamage::HeartbeatLeaf);
+        inputs.push([&beating[..], &beating_log(random, &tree)].concat());
         inputs.push([&sound[..], &damaged_log(random)].concat());
         let mut damaged = sound;
         let damage = *random.pick(&TREE_DAMAGES);

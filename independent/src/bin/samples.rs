@@ -7,9 +7,10 @@
 
 use independent::block::BLOCK;
 use independent::calls::{mine_log, MINING_WORK};
+use independent::generate::heartbeats::put;
 use independent::generate::random::Random;
 use independent::listing::{judging_output, mining_output};
-use independent::log::{log_of, Episode};
+use independent::log::{log_of, Episode, HEARTBEAT};
 use std::path::Path;
 use std::{env, fs, io, process};
 
@@ -24,7 +25,7 @@ const RENEW_LEASE: u8 = 6;
 const RESTART_MODEM: u8 = 7;
 const TELL_OWNER: u8 = 8;
 
-const MEANINGS: [(u8, &str); 9] = [
+const MEANINGS: [(u8, &str); 10] = [
     (A_FALLS, "line A falls"),
     (B_FALLS, "line B falls"),
     (A_RETURNS, "line A returns"),
@@ -34,12 +35,14 @@ const MEANINGS: [(u8, &str); 9] = [
     (RENEW_LEASE, "renew the lease"),
     (RESTART_MODEM, "restart the modem"),
     (TELL_OWNER, "tell the owner"),
+    (HEARTBEAT, "heartbeat, which is no event"),
 ];
 
 type Sample = (&'static str, &'static str, fn() -> Vec<Episode>);
 
-const SAMPLES: [Sample; 7] = [
+const SAMPLES: [Sample; 8] = [
     ("both-lines-fall", "Both lines fall together and return in either order.", both_lines_fall),
+    ("heartbeats", "Both lines fall together, as firmware with heartbeats writes it: the same tree.", heartbeats),
     ("either-line", "One line falls and the other takes over.", either_line),
     ("switchover", "Line A falls, B takes over, A returns; the lease is not always renewed.", switchover),
     ("flapping-line", "Line A falls and returns, at times again after a restart of the modem.", flapping_line),
@@ -57,6 +60,13 @@ fn both_lines_fall() -> Vec<Episode> {
         }
     }
     episodes
+}
+
+/// Up to three heartbeats before, between and behind the events, each evening in other gaps.
+fn heartbeats() -> Vec<Episode> {
+    let beats = |number: usize, events: &Episode| (0..=events.len()).map(|gap| (gap + number) % 4).collect::<Vec<_>>();
+    let evenings = both_lines_fall().into_iter().enumerate();
+    evenings.map(|(number, events)| put(&events, &beats(number, &events))).collect()
 }
 
 fn either_line() -> Vec<Episode> {

@@ -6,6 +6,7 @@ use super::log::check_episode;
 use super::tree::{check_block, entry};
 use crate::answer::{refuse, Answer};
 use crate::calls::JUDGING_WORK;
+use crate::log::{HEARTBEAT, LONGEST_EPISODE};
 
 type Rows = [u64; 64];
 
@@ -14,10 +15,22 @@ pub fn judge(tree: &[u8], episode: &[u8], work: &mut [u64]) -> Answer<usize> {
     let Some(work) = work.get_mut(..JUDGING_WORK) else { return refuse(3, 0) };
     let nodes = check_block(tree)?;
     check_episode(episode)?;
+    let mut room = [0; LONGEST_EPISODE];
+    let episode = events_of(episode, &mut room);
     let rows = work.as_chunks_mut().0;
     let verdict = Judge { tree, episode, rows, codes: [0; 127] }.fits(nodes);
     work.fill(0);
     Ok(verdict as usize)
+}
+
+/// The episode without its heartbeats: the places that judging goes by are those between events.
+fn events_of<'r>(episode: &[u8], room: &'r mut [u8; LONGEST_EPISODE]) -> &'r [u8] {
+    let mut count = 0;
+    for &code in episode {
+        room[count] = code;
+        count += (code != HEARTBEAT) as usize;
+    }
+    &room[..count]
 }
 
 struct Judge<'a> {

@@ -3,6 +3,7 @@
 use super::codes::{bit, Codes};
 use super::log::check_is_right;
 use crate::answer::{refuse, Answer};
+use crate::log::HEARTBEAT;
 
 pub fn entry(tree: &[u8; 512], at: usize) -> [u8; 4] {
     tree.as_chunks().0[at]
@@ -37,7 +38,7 @@ fn well_formed(tree: &[u8; 512]) -> Option<usize> {
 fn sound_entry(tree: &[u8; 512], at: usize, nodes: usize, codes: Codes) -> Option<Codes> {
     match entry(tree, at) {
         [1, 0, 1, 0] => Some(codes),
-        [2, code @ 0..=31, 1, 0] if codes & bit(code) == 0 => Some(codes | bit(code)),
+        [2, code @ 0..HEARTBEAT, 1, 0] if codes & bit(code) == 0 => Some(codes | bit(code)),
         [3..=6, children @ 2..=255, size, 0] => {
             let mut next = at + 1;
             for _ in 0..children {

@@ -2,6 +2,7 @@
 
 use super::codes::{bit, Codes};
 use super::gather::Episodes;
+use crate::log::HEARTBEAT;
 
 /// The episodes of a view are what its breaks leave of each record, other codes than the kept ones passed over.
 #[derive(Clone, Copy)]
@@ -18,12 +19,13 @@ pub struct Graph {
     pub ends: Codes,
 }
 
-/// The view that keeps every code.
+/// The view that keeps every code but the heartbeat, which no view keeps or breaks at: all passes go over it.
 pub fn root_of(episodes: Episodes) -> View {
     let mut view = View { keep: 0, breaks: 0, empty_episode: false };
     for codes in episodes.each() {
-        view.keep |= codes.iter().fold(0, |set, &code| set | bit(code));
-        view.empty_episode |= codes.is_empty();
+        let events = codes.iter().fold(0, |set, &code| set | bit(code)) & !bit(HEARTBEAT);
+        view.keep |= events;
+        view.empty_episode |= events == 0;
     }
     view
 }

@@ -2,7 +2,7 @@
 
 use super::random::Random;
 use crate::block::{write_check, BLOCK, CHECK_AT};
-use crate::log::record_at;
+use crate::log::{record_at, HEARTBEAT};
 use crate::tree::ENTRIES;
 
 #[derive(Clone, Copy, Debug, PartialEq, Eq)]
@@ -76,6 +76,7 @@ pub enum TreeDamage {
     Kind,
     Argument,
     LargeCode,
+    HeartbeatLeaf,
     SameCode,
     OneChild,
     Size,
@@ -84,10 +85,11 @@ pub enum TreeDamage {
     Empty,
 }
 
-pub const TREE_DAMAGES: [TreeDamage; 9] = [
+pub const TREE_DAMAGES: [TreeDamage; 10] = [
     TreeDamage::Kind,
     TreeDamage::Argument,
     TreeDamage::LargeCode,
+    TreeDamage::HeartbeatLeaf,
     TreeDamage::SameCode,
     TreeDamage::OneChild,
     TreeDamage::Size,
@@ -110,6 +112,7 @@ pub fn damage_tree(random: &mut Random, block: &mut [u8], damage: TreeDamage) {
         TreeDamage::Kind => block[*random.pick(&any)] = random.between(0, 9) as u8,
         TreeDamage::Argument => block[1 + *random.pick(&any)] = random.between(0, 9) as u8,
         TreeDamage::LargeCode if !leaves.is_empty() => block[1 + *random.pick(&leaves)] = random.byte_from(32),
+        TreeDamage::HeartbeatLeaf if !leaves.is_empty() => block[1 + *random.pick(&leaves)] = HEARTBEAT,
         TreeDamage::SameCode if leaves.len() > 1 => block[1 + leaves[0]] = block[1 + leaves[leaves.len() - 1]],
         TreeDamage::OneChild if !operators.is_empty() => block[1 + *random.pick(&operators)] = 1,
         TreeDamage::Size => block[2 + *random.pick(&any)] = random.between(0, 127) as u8,

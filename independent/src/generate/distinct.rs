@@ -5,7 +5,7 @@ use super::logs::largest_log;
 use super::random::Random;
 use crate::block::BLOCK;
 use crate::fast::SLOTS;
-use crate::log::{add, Episode, LONGEST_EPISODE, MOST_BLOCKS};
+use crate::log::{add, is_event, Episode, EVENT_CODES, LONGEST_EPISODE, MOST_BLOCKS};
 use std::collections::BTreeSet;
 
 const SHORTEST: usize = 20;
@@ -14,14 +14,14 @@ const SHORTEST: usize = 20;
 /// every pair of the one and the other, both ways.
 const ORDERS: [[usize; 4]; 4] = [[0, 1, 2, 3], [2, 3, 0, 1], [2, 0, 3, 1], [0, 2, 1, 3]];
 
-/// So many events of eight groups, one group after the other. Codes from `from` on come twice, or are missing where the
-/// episode is short, but never both codes of a sequence.
+/// So many events of eight groups, one group after the other, the last without the heartbeat's code. Codes from `from` on
+/// come twice, or are missing where the episode is short, but never both codes of a sequence.
 fn grouped(order: usize, from: usize, length: usize) -> Episode {
-    let mut times = [1; 32];
-    (32..length).for_each(|more| times[(from + more) % 32] += 1);
-    (length..32).for_each(|less| times[(from + less) % 16 * 2 + order % 2] -= 1);
+    let mut times = [1; EVENT_CODES];
+    (EVENT_CODES..length).for_each(|more| times[(from + more) % EVENT_CODES] += 1);
+    (length..EVENT_CODES).for_each(|less| times[(from + less) % (EVENT_CODES / 2) * 2 + order % 2] -= 1);
     let codes = (0..8).flat_map(|group| ORDERS[(order + group) % 4].map(|code| 4 * group + code));
-    codes.flat_map(|code| vec![code as u8; times[code]]).collect()
+    codes.filter(|&code| is_event(code as u8)).flat_map(|code| vec![code as u8; times[code]]).collect()
 }
 
 /// So many distinct episodes, from the shortest to the longest.
@@ -39,8 +39,9 @@ pub fn repeating_log(episodes: &[Episode]) -> Vec<u8> {
 /// A full log in which no episode comes twice.
 pub fn log_without_repeats() -> Vec<u8> {
     let mut seen = BTreeSet::new();
-    let any =
-        |random: &mut Random| grouped(random.below(4), random.below(32), random.between(SHORTEST, LONGEST_EPISODE));
+    let any = |random: &mut Random| {
+        grouped(random.below(4), random.below(EVENT_CODES), random.between(SHORTEST, LONGEST_EPISODE))
+    };
     let next = |random: &mut Random| loop {
         let episode = any(random);
         if seen.insert(episode.clone()) {
@@ -59,11 +60,11 @@ pub fn every_episode(codes: u8, length: usize) -> Vec<Episode> {
     (0..length).fold(vec![vec![]], |episodes, _| longer(episodes))
 }
 
-/// As many distinct episodes as a log can have, which are 2,300: the empty one, all of one and of two events, then of three.
+/// As many distinct episodes as a log can have, which are 2,284: the empty one, all of one and of two events, then of three.
 pub fn most_episodes() -> Vec<Episode> {
-    let mut episodes = every_episode(32, 3);
-    episodes.truncate(1_243);
-    (0..3).rev().for_each(|length| episodes.extend(every_episode(32, length)));
+    let mut episodes = every_episode(EVENT_CODES as u8, 3);
+    episodes.truncate(1_291);
+    (0..3).rev().for_each(|length| episodes.extend(every_episode(EVENT_CODES as u8, length)));
     episodes
 }
 

@@ -1,15 +1,16 @@
-//! The largest inputs of several shapes: full logs, with all 32 codes or with many records, and 63-event episodes on 127-node
-//! trees; and blocks that are no trees, nested as deep as they can be.
+//! The largest inputs of several shapes: full logs, with all 31 codes of events or with many records, some with heartbeats, and
+//! 63-event episodes on 127-node trees; and blocks that are no trees, nested as deep as they can be.
 
 use super::distinct::{
     crowd, every_episode, first_fit, grouped_episodes, log_without_repeats, most_episodes, repeating_log,
 };
+use super::heartbeats::{put_between, put_one};
 use super::logs::largest_log;
 use super::random::Random;
 use super::trees::short_episode;
 use crate::block::{write_check, BLOCK};
 use crate::fast::number_of;
-use crate::log::{Episode, LONGEST_EPISODE};
+use crate::log::{Episode, EVENT_CODES, LONGEST_EPISODE};
 use crate::tree::{Operator, Tree};
 use Operator::{Choice, Loop, Parallel, Sequence};
 
@@ -21,7 +22,7 @@ pub enum Task {
 type Shape = (&'static str, fn() -> Task);
 
 /// The names of all shapes and how to make each.
-pub const SHAPES: [Shape; 27] = [
+pub const SHAPES: [Shape; 30] = [
     ("mine-balanced", || logs_of(balanced(Sequence, Choice, leaves()), Events::Doubled, 8)),
     ("mine-balanced-parallel", || logs_of(balanced(Choice, Parallel, leaves()), Events::Doubled, 8)),
     ("mine-sequence-loop-comb", || logs_of(sequence_loop_comb(), Events::Doubled, 10)),
@@ -39,7 +40,9 @@ pub const SHAPES: [Shape; 27] = [
     ("mine-empty-records", || mine(repeating_log(&[vec![]]))),
     ("mine-one-event-records", || mine(repeating_log(&every_episode(4, 1)))),
     ("mine-many-short", || mine(first_fit(&most_episodes()))),
-    ("mine-crowded", || mine(first_fit(&crowd(every_episode(32, 3), 0, number_of)[..2_016]))),
+    ("mine-crowded", || mine(first_fit(&crowd(every_episode(EVENT_CODES as u8, 3), 0, number_of)[..2_016]))),
+    ("mine-heartbeats-between", || logs_with(balanced(Sequence, Choice, leaves()), |_, events| put_between(&events))),
+    ("mine-few-heartbeats", || logs_with(balanced(Sequence, Choice, leaves()), some_heartbeat)),
     ("judge-balanced", || judge_fit(balanced(Sequence, Choice, blossoms()))),
     ("judge-balanced-parallel", || judge_fit(balanced(Sequence, Parallel, blossoms()))),
     ("judge-sequence-comb", || judge_fit(comb(Sequence))),
@@ -49,6 +52,7 @@ pub const SHAPES: [Shape; 27] = [
     ("judge-loops-of-one-code", || judge_one_code(loops_of_one_code())),
     ("judge-flat-sequence", || judge_fit(among_silents(Sequence))),
     ("judge-flat-loop", || judge_any(among_silents(Loop))),
+    ("judge-heartbeats", || judge_beating(balanced(Sequence, Parallel, blossoms()))),
 ];
 
 /// The tree that takes most to judge: every entry has all places after every place.
@@ -78,14 +82,34 @@ enum Events {
 }
 
 fn logs_of(tree: Tree, events: Events, odds: usize) -> Task {
-    let next = |random: &mut Random| loop {
-        let plain = short_episode(random, &tree, odds);
-        let episode: Episode = plain.iter().flat_map(|&code| vec![code; times(random, events)]).collect();
-        if episode.len() <= LONGEST_EPISODE {
-            return episode;
+    mine(largest_log(&mut Random::seeded(73), |random| episode_of(random, &tree, events, odds, |_, episode| episode)))
+}
+
+/// Logs of a tree in which an event comes twice now and then, heartbeats put into each episode.
+fn logs_with(tree: Tree, put: Put) -> Task {
+    mine(largest_log(&mut Random::seeded(73), |random| episode_of(random, &tree, Events::Doubled, 8, put)))
+}
+
+type Put = fn(&mut Random, Episode) -> Episode;
+
+fn episode_of(random: &mut Random, tree: &Tree, events: Events, odds: usize, put: Put) -> Episode {
+    loop {
+        let plain = short_episode(random, tree, odds);
+        let episode = plain.iter().flat_map(|&code| vec![code; times(random, events)]).collect();
+        let record = put(random, episode);
+        if record.len() <= LONGEST_EPISODE {
+            return record;
         }
-    };
-    mine(largest_log(&mut Random::seeded(61), next))
+    }
+}
+
+/// In every fourth episode a heartbeat somewhere.
+fn some_heartbeat(random: &mut Random, events: Episode) -> Episode {
+    if random.once_in(4) {
+        put_one(&events, random.below(events.len() + 1))
+    } else {
+        events
+    }
 }
 
 fn times(random: &mut Random, events: Events) -> usize {
@@ -100,10 +124,10 @@ fn times(random: &mut Random, events: Events) -> usize {
 /// both ways and every code starts and ends an episode, so there is no cut.
 fn logs_around(longest: usize) -> Task {
     let next = |random: &mut Random| {
-        let mut code = random.below(32);
+        let mut code = random.below(EVENT_CODES);
         let mut episode = vec![code as u8];
         for _ in 1..random.between(1, longest) {
-            code = (code + random.between(1, 15)) % 32;
+            code = (code + random.between(1, 15)) % EVENT_CODES;
             episode.push(code as u8);
         }
         episode
@@ -112,12 +136,13 @@ fn logs_around(longest: usize) -> Task {
 }
 
 fn leaves() -> Vec<Tree> {
-    (0..32).map(Tree::Activity).collect()
+    (0..EVENT_CODES as u8).map(Tree::Activity).collect()
 }
 
-/// A leaf that may come any number of times: three nodes for a code, so 127 with 31 operators of two children.
+/// A leaf that may come any number of times: three nodes for a code and for one more silent leaf, so 127 with 31 operators of
+/// two children.
 fn blossoms() -> Vec<Tree> {
-    leaves().into_iter().map(|leaf| Tree::Node(Loop, vec![Tree::Silent, leaf])).collect()
+    leaves().into_iter().chain([Tree::Silent]).map(|leaf| Tree::Node(Loop, vec![Tree::Silent, leaf])).collect()
 }
 
 /// Two children everywhere, the two operators in turn, the first at the root.
@@ -137,7 +162,7 @@ fn flat(operator: Operator) -> Tree {
 
 /// One operator inside the other's first child, again and again.
 fn comb(operator: Operator) -> Tree {
-    blossoms().into_iter().reduce(|inner, leaf| Tree::Node(operator, vec![inner, leaf])).expect("32 leaves")
+    blossoms().into_iter().reduce(|inner, leaf| Tree::Node(operator, vec![inner, leaf])).expect("32 blossoms")
 }
 
 fn sequence_loop_comb() -> Tree {
@@ -146,7 +171,7 @@ fn sequence_loop_comb() -> Tree {
         let again = Tree::Node(Loop, vec![tree, Tree::Activity(2 * level + 1)]);
         tree = Tree::Node(Sequence, vec![Tree::Activity(2 * level), again]);
     }
-    Tree::Node(Choice, vec![tree, Tree::Activity(31)])
+    tree
 }
 
 fn choice_sequence_comb() -> Tree {
@@ -155,14 +180,14 @@ fn choice_sequence_comb() -> Tree {
         let longer = Tree::Node(Sequence, vec![Tree::Activity(2 * level + 1), tree]);
         tree = Tree::Node(Choice, vec![Tree::Activity(2 * level), longer]);
     }
-    Tree::Node(Sequence, vec![tree, Tree::Activity(31)])
+    tree
 }
 
 /// Thirty events for one body, so that two bodies and a redo nearly fill the longest record.
 fn long_body() -> Tree {
     let pairs = (0..15).map(|pair| Tree::Node(Parallel, vec![Tree::Activity(2 * pair), Tree::Activity(2 * pair + 1)]));
     let body = Tree::Node(Sequence, pairs.collect());
-    Tree::Node(Loop, vec![body, Tree::Activity(30), Tree::Activity(31)])
+    Tree::Node(Loop, vec![body, Tree::Activity(30)])
 }
 
 /// Sixty-three loops around each other and one code in the innermost: every place can follow every other.
@@ -175,7 +200,7 @@ fn silent_loops() -> Tree {
     (0..63).fold(Tree::Silent, |inner, _| Tree::Node(Loop, vec![inner, Tree::Silent]))
 }
 
-/// One operator with 62 children: the 32 codes and silent leaves between most of them.
+/// One operator with 62 children: the blossoms and silent leaves between most of them.
 fn among_silents(operator: Operator) -> Tree {
     let mut children = Vec::new();
     for (number, blossom) in blossoms().into_iter().enumerate() {
@@ -187,20 +212,30 @@ fn among_silents(operator: Operator) -> Tree {
     Tree::Node(operator, children)
 }
 
-/// An episode of a tree of blossoms, its events repeated until it is as long as one can be.
 fn judge_fit(tree: Tree) -> Task {
+    Task::Judge { block: tree.block(), episode: fitting(&tree, LONGEST_EPISODE) }
+}
+
+/// An episode of a tree of blossoms, its events repeated until there are so many.
+fn fitting(tree: &Tree, length: usize) -> Episode {
     let mut random = Random::seeded(63);
-    let mut episode = short_episode(&mut random, &tree, 2);
-    while episode.len() < LONGEST_EPISODE {
+    let mut episode = short_episode(&mut random, tree, 2);
+    while episode.len() < length {
         let place = random.below(episode.len());
         episode.insert(place, episode[place]);
     }
-    Task::Judge { block: tree.block(), episode }
+    episode.truncate(length);
+    episode
+}
+
+/// Thirty-two events and a heartbeat between every two of them.
+fn judge_beating(tree: Tree) -> Task {
+    Task::Judge { block: tree.block(), episode: put_between(&fitting(&tree, 32)) }
 }
 
 fn judge_any(tree: Tree) -> Task {
     let mut random = Random::seeded(64);
-    let episode = (0..LONGEST_EPISODE).map(|_| random.below(32) as u8).collect();
+    let episode = (0..LONGEST_EPISODE).map(|_| random.below(EVENT_CODES) as u8).collect();
     Task::Judge { block: tree.block(), episode }
 }
 

@@ -3,6 +3,7 @@
 pub mod components;
 pub mod damage;
 pub mod distinct;
+pub mod heartbeats;
 pub mod largest;
 pub mod logs;
 pub mod random;

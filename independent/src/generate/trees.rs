@@ -1,14 +1,14 @@
 //! Trees, and episodes of their language.
 
 use super::random::Random;
-use crate::log::{Episode, LONGEST_EPISODE};
+use crate::log::{is_event, Episode, LARGEST_CODE, LONGEST_EPISODE};
 use crate::tree::{Operator, Tree, ENTRIES};
 
 pub const OPERATORS: [Operator; 4] = [Operator::Choice, Operator::Sequence, Operator::Parallel, Operator::Loop];
 
-/// So many different codes, in no order.
+/// So many different codes of events, in no order.
 pub fn some_codes(random: &mut Random, count: usize) -> Vec<u8> {
-    let mut codes: Vec<u8> = (0..32).collect();
+    let mut codes: Vec<u8> = (0..=LARGEST_CODE).filter(|&code| is_event(code)).collect();
     random.shuffle(&mut codes);
     codes.truncate(count);
     codes

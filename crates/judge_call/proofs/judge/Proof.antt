@@ -1,7 +1,7 @@
 use borrow.Author.Needs.{needs}
 use native.Mathlib.Omega.{arith}
 use mathlib.Core.Path.{refl}
-use Rattle.judge_call.proofs.JudgeLaws.{judge-refused, judge-long, judge-nodes, judge-fits, judge-misfit}
+use Rattle.judge_call.proofs.JudgeLaws.{judge-refused, judge-long, judge-short, judge-nodes, judge-fits, judge-misfit}
 use Rattle.judge_call.proofs.judge.Statement.{statement}
 use Rattle.judge_call.proofs.judge.Tie as tie
 
@@ -34,7 +34,7 @@ fits-requires c κs =
     let size = c .before in
     let asked = size .before .before .before in
     let a = asked .before .before .before .before .args in
-    judge-nodes (a .tree .now) (a .episode .now) (a .work .now) (asked .accept .result) (asked .accept .ensures (a .work .now) refl) _ (size .before .enum-told .given .1) (size .size-at .result) (size .size-at .ensures)
+    (judge-short (a .tree .now) (a .episode .now) (a .work .now) (asked .accept .result) (asked .accept .ensures (a .work .now) refl) _ (size .before .enum-told .given .1), judge-nodes (a .tree .now) (a .episode .now) (a .work .now) (asked .accept .result) (asked .accept .ensures (a .work .now) refl) _ (size .before .enum-told .given .1) (size .size-at .result) (size .size-at .ensures))
 
 same-length : tie.Need-same-length
 same-length c = search needs

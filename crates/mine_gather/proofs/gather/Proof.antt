@@ -15,12 +15,12 @@ use Rattle.mine_gather.proofs.gather.Statement.{statement}
 use Rattle.mine_gather.proofs.gather.Tie as tie
 
 abbrev Inv-loop : tie.InvT-loop
-Inv-loop log work₀ w n₀ base₀ blocks₀ work n base blocks =
+Inv-loop log work₀ w beats n₀ base₀ blocks₀ work n base blocks =
     Given (blocksAt w topCode blocks log base) × (base + 512 * blocks ≤ length log) × (n + 255 * blocks ≤ 4080)
     × Gathered w log (logEpisodes w log) (episodesFrom w blocks log base) 0 work₀ n work
 
 abbrev μ-loop : tie.MeasureT-loop
-μ-loop log work₀ w n₀ base₀ blocks₀ work n base blocks = blocks
+μ-loop log work₀ w beats n₀ base₀ blocks₀ work n base blocks = blocks
 
 clear-hints-requires : tie.Need-clear-hints-requires Inv-loop μ-loop
 clear-hints-requires c κs = search needs
@@ -79,7 +79,8 @@ returns c =
     let cleared = c .before .before .before .before .clear-hints in
     let l = c .before .loop in
     let g = subst (λ (r : Log). Gathered (a .w) (a .log .now) (logEpisodes (a .w) (a .log .now)) r 0 (cleared .last .0) (l .n) (l .work)) (blocks-episodes-end (a .w) (a .log .now) (l .base) (l .blocks) (omega arith)) (l .inv .3) in
-    (omega (arith, l .inv .2), g .size ∙ cleared .ensures, record { few = start .pre .1; all = g .all }, gather-whole (a .w) (a .log .now) (logEpisodes (a .w) (a .log .now)) (cleared .last .0) (l .n) (l .work) g)
+    let same = gather-whole (a .w) (a .log .now) (logEpisodes (a .w) (a .log .now)) (cleared .last .0) (l .n) (l .work) g in
+    (g .size ∙ cleared .ensures, record { few = omega (arith, l .inv .2); listed = record { few = start .pre .1; all = g .all }; same = same })
 
 pub gather-spec : {M : Type 1} → statement M
 gather-spec =

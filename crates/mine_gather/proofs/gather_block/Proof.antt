@@ -20,12 +20,12 @@ use Rattle.mine_gather.proofs.gather_block.Statement.{statement}
 use Rattle.mine_gather.proofs.gather_block.Tie as tie
 
 abbrev Inv-loop : tie.InvT-loop
-Inv-loop log work₀ n base w end block m₀ at₀ records₀ work m at records =
+Inv-loop log work₀ n base w beats end block m₀ at₀ records₀ work m at records =
     (block ≡ part log base 512) × Given (recordsAt w topCode records (part log base 512) at) × (length (blockEpisodes w (part log base 512)) ≤ 255)
     × Gathered w log (blockEpisodes w (part log base 512)) (episodesAt w records (part log base 512) at) n work₀ m work
 
 abbrev μ-loop : tie.MeasureT-loop
-μ-loop log work₀ n base w end block m₀ at₀ records₀ work m at records = records
+μ-loop log work₀ n base w beats end block m₀ at₀ records₀ work m at records = records
 
 add-end : tie.Need-add-end Inv-loop μ-loop
 add-end c = search needs

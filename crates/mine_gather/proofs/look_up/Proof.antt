@@ -8,10 +8,10 @@ use Rattle.mine_gather.proofs.look_up.Statement.{statement}
 use Rattle.mine_gather.proofs.look_up.Tie as tie
 
 abbrev Inv-loop : tie.InvT-loop
-Inv-loop log work n events w slot₀ tries₀ slot tries = slot < 2048
+Inv-loop log work n events w beats slot₀ tries₀ slot tries = slot < 2048
 
 abbrev μ-loop : tie.MeasureT-loop
-μ-loop log work n events w slot₀ tries₀ slot tries = tries
+μ-loop log work n events w beats slot₀ tries₀ slot tries = tries
 
 slot-of-requires : tie.Need-slot-of-requires Inv-loop μ-loop
 slot-of-requires c κs = search needs
@@ -49,8 +49,8 @@ events-at-requires c κs =
     let a = start .args in
     (start .pre .2 .few, hinted (a .w) (a .log .now) (a .n) (a .work .now) (start .pre .2) (start .pre .0) _ (omega arith) (omega arith) _ (c .place-at2 .ensures))
 
-same-codes-requires : tie.Need-same-codes-requires Inv-loop μ-loop
-same-codes-requires c κs =
+same-events-requires : tie.Need-same-events-requires Inv-loop μ-loop
+same-events-requires c κs =
     let start = c .before .before .before .before .before .before .before .before .before .before .before in
     let a = start .args in
     let known = hinted (a .w) (a .log .now) (a .n) (a .work .now) (start .pre .2) (start .pre .0) _ (omega arith) (omega arith) _ (c .before .place-at2 .ensures) in
@@ -60,7 +60,7 @@ returns-3 : tie.Need-returns-3 Inv-loop μ-loop
 returns-3 c =
     let start = c .before .before .before .before .before .before .before .before .before .before .before .before .before in
     let a = start .args in
-    hinted-same (a .w) (a .log .now) (a .n) (a .work .now) (start .pre .2) (start .pre .0) _ (omega arith) (omega arith) _ (c .before .before .before .place-at2 .ensures) _ (c .before .before .events-at .ensures) _ (c .before .same-codes .ensures (c .if3 .taken))
+    hinted-same (a .w) (a .log .now) (a .n) (a .work .now) (start .pre .2) (start .pre .0) _ (omega arith) (omega arith) _ (c .before .before .before .place-at2 .ensures) _ (c .before .before .events-at .ensures) _ (c .before .same-events .ensures (c .if3 .taken))
 
 add-slot : tie.Need-add-slot Inv-loop μ-loop
 add-slot c = search needs
@@ -94,7 +94,7 @@ look-up-spec =
     mul-place-at-2
     place-at-requires-2
     events-at-requires
-    same-codes-requires
+    same-events-requires
     returns-3
     add-slot
     sub-tries

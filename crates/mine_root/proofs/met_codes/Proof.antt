@@ -8,7 +8,7 @@ use Rattle.rules.specs.Calls.{codeCount}
 use Rattle.code_sets.specs.Bits.{has}
 use Rattle.mine_places.specs.Places.{codesOf, All}
 use Rattle.mine_places.proofs.ListLaws.{code-here, codes-after}
-use Rattle.mine_root.proofs.CodeLaws.{met-first, met-next, met-end, met-full}
+use Rattle.mine_root.proofs.CodeLaws.{met-first, met-next, met-end, met-quiet, met-full}
 use borrow.Author.Needs.{needs}
 use Rattle.mine_root.proofs.met_codes.Statement.{statement}
 use Rattle.mine_root.proofs.met_codes.Tie as tie
@@ -21,8 +21,11 @@ Inv-loop events w k₀ i₀ k i =
 abbrev μ-loop : tie.MeasureT-loop
 μ-loop events w k₀ i₀ k i = length events - i
 
+with-code-requires : tie.Need-with-code-requires Inv-loop μ-loop
+with-code-requires c κs = search needs
+
 returns : tie.Need-returns Inv-loop μ-loop
-returns c = search met-full
+returns c = met-full _ _ _ (c .before .before .with-code .ensures) (c .if1 .taken)
 
 loop-holds : tie.Need-loop-holds Inv-loop μ-loop
 loop-holds c = (search needs, search met-first depth 7)
@@ -30,8 +33,8 @@ loop-holds c = (search needs, search met-first depth 7)
 shared-slice-read-with-code : tie.Need-shared-slice-read-with-code Inv-loop μ-loop
 shared-slice-read-with-code c = search needs
 
-with-code-requires : tie.Need-with-code-requires Inv-loop μ-loop
-with-code-requires c κs = search code-here depth 7
+with-code-requires-2 : tie.Need-with-code-requires-2 Inv-loop μ-loop
+with-code-requires-2 c κs = search code-here depth 7
 
 add-i : tie.Need-add-i Inv-loop μ-loop
 add-i c = search needs
@@ -42,10 +45,10 @@ loop-less c = search needs
 loop-again : tie.Need-loop-again Inv-loop μ-loop
 loop-again c =
     let e = c .before .before .before .loop in
-    (search codes-after depth 7, met-next _ (search needs) _ (e .i) (e .k .bits) _ (e .inv .1) (search needs) _ (c .with-code .ensures))
+    (search codes-after depth 7, met-next _ (search needs) _ (e .i) (e .k .bits) _ (e .inv .1) (search needs) _ (c .with-code2 .ensures))
 
 returns-2 : tie.Need-returns-2 Inv-loop μ-loop
-returns-2 c = let e = c .before .loop in met-end _ (search needs) _ (e .i) (e .k .bits) _ (e .inv .1) (search needs)
+returns-2 c = let e = c .before .loop in met-quiet _ _ _ (met-end _ (search needs) _ (e .i) (e .k .bits) _ (e .inv .1) (search needs))
 
 pub met-codes-spec : {M : Type 1} → statement M
 met-codes-spec =
@@ -53,10 +56,11 @@ met-codes-spec =
     (tie.spec
     Inv-loop
     μ-loop
+    with-code-requires
     returns
     loop-holds
     shared-slice-read-with-code
-    with-code-requires
+    with-code-requires-2
     add-i
     loop-less
     loop-again

@@ -3,11 +3,12 @@ use Prim.Native.Nat.{_*_, _-_, _≤_}
 use native.Mathlib.Omega.{arith}
 use lib.ListN.{length, drop}
 use Rattle.rules.specs.Words.{each}
+use Rattle.rules.specs.Heartbeats.{withoutHeartbeats}
 use Rattle.rules.specs.Calls.{codeCount}
 use Rattle.mine_places.specs.Places.{placesIn, episodeOf, episodesOf, All, Recorded}
 use Rattle.mine_places.proofs.PassLaws.{listed-next, record-here, events-here, pass-end, pass-read}
 use Rattle.mine_views.specs.Sublogs.{sight, rootSight}
-use Rattle.mine_root.specs.Widened.{widened}
+use Rattle.mine_root.specs.Widened.{quietly, widened}
 use Rattle.mine_root.proofs.RootLaws.{widened-nil, widened-append, widened-root}
 use borrow.Author.Needs.{needs}
 use Rattle.mine_root.proofs.root_of.Statement.{statement}
@@ -15,7 +16,7 @@ use Rattle.mine_root.proofs.root_of.Tie as tie
 
 abbrev Inv-loop : tie.InvT-loop
 Inv-loop log places w v₀ i₀ v i =
-    All (Recorded w log) (placesIn (drop (2 * i) places)) × (rootSight codeCount (episodesOf w log places) ≡ widened (sight v) (each (episodeOf w log) (placesIn (drop (2 * i) places)))) × (i ≤ length places)
+    All (Recorded w log) (placesIn (drop (2 * i) places)) × (rootSight codeCount (each withoutHeartbeats (episodesOf w log places)) ≡ widened (quietly (sight v)) (each (episodeOf w log) (placesIn (drop (2 * i) places)))) × (i ≤ length places)
 
 abbrev μ-loop : tie.MeasureT-loop
 μ-loop log places w v₀ i₀ v i = length places - i

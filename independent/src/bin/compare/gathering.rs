@@ -1,6 +1,7 @@
 //! Mining logs that show what can go wrong where episodes are gathered, each distinct one once: a record that is left out, two
 //! that are taken for one, a list or a table that does not begin empty or does not hold them all.
 
+use crate::heartbeats::beating;
 use crate::tally::Tally;
 use crate::trial::{Case, Found, Outcome};
 use independent::block::BLOCK;
@@ -10,7 +11,7 @@ use independent::generate::logs::tree_episodes;
 use independent::generate::random::Random;
 use independent::generate::trees::{some_codes, some_tree};
 use independent::graph::Log;
-use independent::log::{log_of, records_of, Episode, MOST_BLOCKS};
+use independent::log::{events_of, log_of, records_of, Episode, MOST_BLOCKS};
 use independent::mine::mine;
 
 /// Mines logs, each with something else in the work.
@@ -24,25 +25,29 @@ impl<'a> Miner<'a> {
         Miner { tally, turn: 0 }
     }
 
-    fn mine(&mut self, log: Vec<u8>) -> Outcome {
+    pub fn mine(&mut self, log: Vec<u8>) -> Outcome {
         let found = some_found(&log);
         self.turn += 1;
         self.mine_with(log, found[self.turn % found.len()])
     }
 
     fn mine_with(&mut self, log: Vec<u8>, found: Found) -> Outcome {
-        self.tally.case(Case::Mine { log, out: BLOCK, work: MINING_WORK, found })
+        beating(self.tally, Case::Mine { log, out: BLOCK, work: MINING_WORK, found })
+    }
+
+    pub fn meets(&mut self, form: &'static str) {
+        self.tally.meets("mining", form);
     }
 
     /// Mines a log whose tree is another one than that of some of its episodes.
     pub fn tells_from(&mut self, log: Vec<u8>, some: &[Episode]) {
-        let tree = mine(&Log::from_iter(some.iter().cloned()));
+        let tree = mine(&Log::from_iter(some.iter().map(|codes| events_of(codes))));
         let outcome = self.mine(log);
         self.tally.holds("a distinct episode shows in the tree", outcome.tree() != Some(tree));
     }
 }
 
-fn blocks_of(episodes: &[&[Episode]]) -> Vec<u8> {
+pub fn blocks_of(episodes: &[&[Episode]]) -> Vec<u8> {
     episodes.iter().flat_map(|episodes| log_of(episodes).expect("a block holds them")).collect()
 }
 
@@ -67,7 +72,7 @@ fn places_of(log: &[u8]) -> Vec<u16> {
 pub fn only_one_of_its_kind(tally: &mut Tally) {
     let mut miner = Miner::new(tally);
     let usual = || vec![vec![0, 1]; 168];
-    let others = [(168, vec![1, 0]), (168, vec![]), (168, vec![31]), (168, vec![0]), (84, vec![1, 0]), (0, vec![1, 0])];
+    let others = [(168, vec![1, 0]), (168, vec![]), (168, vec![30]), (168, vec![0]), (84, vec![1, 0]), (0, vec![1, 0])];
     for (blocks, (at, other)) in (1..=MOST_BLOCKS).flat_map(|blocks| others.iter().map(move |other| (blocks, other))) {
         let mut last = usual();
         last.insert(*at, other.clone());
@@ -104,17 +109,17 @@ fn pair(miner: &mut Miner, one: &Episode, other: &Episode) {
 }
 
 /// So many events, at a place of them.
-fn places(lengths: &[usize]) -> Vec<(usize, usize)> {
+pub fn places(lengths: &[usize]) -> Vec<(usize, usize)> {
     lengths.iter().flat_map(|&length| (0..length).map(move |place| (length, place))).collect()
 }
 
 /// Episodes of one length that differ in one code, at each place.
 pub fn one_code_apart(tally: &mut Tally) {
     let mut miner = Miner::new(tally);
-    for (length, place) in places(&[1, 2, 3, 4, 5, 7, 8, 9, 15, 16, 17, 31]) {
+    for (length, place) in places(&[1, 2, 3, 4, 5, 7, 8, 9, 15, 16, 17, 30]) {
         let one: Episode = (0..length as u8).collect();
         let mut other = one.clone();
-        other[place] = 31;
+        other[place] = 30;
         pair(&mut miner, &one, &other);
     }
     long_ones_apart(&mut miner);

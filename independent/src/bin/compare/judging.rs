@@ -10,6 +10,7 @@ use independent::generate::largest::{Task, BROKEN, SHAPES, WORST};
 use independent::generate::logs::any_episode;
 use independent::generate::random::Random;
 use independent::generate::trees::{short_episode, some_codes, some_tree};
+use independent::log::EVENT_CODES;
 use independent::tree::Tree;
 
 fn judge(tally: &mut Tally, tree: &Tree, episode: &[u8]) {
@@ -34,7 +35,7 @@ pub fn small_trees(tally: &mut Tally) {
 pub fn large_trees(tally: &mut Tally) {
     let mut random = Random::seeded(52);
     for round in 0..600 {
-        let count = [32, 16, 8, 5][round % 4];
+        let count = [EVENT_CODES, 16, 8, 5][round % 4];
         let codes = some_codes(&mut random, count);
         let tree = some_tree(&mut random, &codes);
         let mut episode = short_episode(&mut random, &tree, 2);
@@ -48,12 +49,12 @@ pub fn large_trees(tally: &mut Tally) {
         }
     }
     for length in 0..=66 {
-        for top in [0, 2, 31, 32, 255] {
-            let codes = some_codes(&mut random, 32);
+        for top in [0, 2, 30, 31, 32, 255] {
+            let codes = some_codes(&mut random, EVENT_CODES);
             let tree = some_tree(&mut random, &codes);
             let episode: Vec<u8> = (0..length).map(|_| random.between(0, top) as u8).collect();
             judge(tally, &tree, &episode);
-            judge(tally, &Tree::flower(&(0..32).collect()), &episode);
+            judge(tally, &Tree::flower(&(0..EVENT_CODES as u8).collect()), &episode);
         }
     }
     let tree = Tree::Activity(3).block().to_vec();

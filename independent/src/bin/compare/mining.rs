@@ -5,13 +5,14 @@ use crate::trial::Case;
 use independent::block::{write_check, BLOCK};
 use independent::calls::MINING_WORK;
 use independent::generate::damage::{damage_log_block, LogDamage, LOG_DAMAGES};
+use independent::generate::heartbeats::put_anywhere;
 use independent::generate::largest::{Task, SHAPES};
 use independent::generate::logs::{
     any_episode, any_episodes, block_with, full_log, largest_log, packed_log, tree_episodes,
 };
 use independent::generate::random::Random;
 use independent::generate::trees::{short_episode, some_codes, some_tree, some_tree_under, OPERATORS};
-use independent::log::{add, Episode, MOST_BLOCKS};
+use independent::log::{add, Episode, EVENT_CODES, MOST_BLOCKS};
 use independent::tree::Tree;
 
 fn mine(tally: &mut Tally, log: Vec<u8>) {
@@ -54,7 +55,7 @@ pub fn small_logs(tally: &mut Tally) {
 pub fn some_logs(tally: &mut Tally) {
     let mut random = Random::seeded(31);
     for round in 0..4000 {
-        let codes = random.between(1, [4, 6, 8, 32][round % 4]);
+        let codes = random.between(1, [4, 6, 8, EVENT_CODES][round % 4]);
         let tree = {
             let codes = some_codes(&mut random, codes);
             some_tree(&mut random, &codes)
@@ -103,7 +104,7 @@ fn change(random: &mut Random, episode: &mut Episode, codes: &[u8]) {
 pub fn full_logs(tally: &mut Tally) {
     let mut random = Random::seeded(32);
     for round in 0..60 {
-        let codes = some_codes(&mut random, [32, 31, 20, 12][round % 4]);
+        let codes = some_codes(&mut random, [EVENT_CODES, 30, 20, 12][round % 4]);
         let tree = some_tree(&mut random, &codes);
         let odds = random.between(2, 8);
         mine(tally, largest_log(&mut random, |random| short_episode(random, &tree, odds)));
@@ -116,7 +117,7 @@ pub fn full_logs(tally: &mut Tally) {
     // Records of every length that end with the block's last payload byte, then a count with one record too many.
     for length in 0..=63 {
         let mut block = block_with(&mut random, length + 1);
-        add(&mut block, &vec![31; length]).expect("it has exactly this room");
+        add(&mut block, &vec![30; length]).expect("it has exactly this room");
         mine(tally, block.clone());
         block[0] += 1;
         write_check(&mut block);
@@ -137,7 +138,7 @@ pub fn measured_logs(tally: &mut Tally) {
 pub fn joined_logs(tally: &mut Tally) {
     let mut random = Random::seeded(35);
     for (blocks, others) in (1..=MOST_BLOCKS).flat_map(|n| (1..=MOST_BLOCKS + 1 - n).map(move |m| (n, m))) {
-        for kind in 0..4 {
+        for kind in 0..5 {
             let (one, other) = two_logs(&mut random, blocks, others, kind);
             let (out, work) = match (blocks + kind) % 8 {
                 0 => (BLOCK - 1, MINING_WORK),
@@ -156,7 +157,8 @@ pub fn joined_logs(tally: &mut Tally) {
     }
 }
 
-/// Full logs of so many blocks: of one tree, of two trees with other codes, of two trees with the same, of any episodes.
+/// Full logs of so many blocks: of one tree, of two trees with other codes, of two trees with the same, of any episodes, and of
+/// one tree with heartbeats.
 fn two_logs(random: &mut Random, blocks: usize, others: usize, kind: usize) -> (Vec<u8>, Vec<u8>) {
     if kind == 3 {
         let (codes, longest) = (random.between(1, 6), random.between(0, 6));
@@ -166,8 +168,15 @@ fn two_logs(random: &mut Random, blocks: usize, others: usize, kind: usize) -> (
     let codes = some_codes(random, 12);
     let hands = if kind == 1 { [&codes[..5], &codes[5..]] } else { [&*codes, &*codes] };
     let one = some_tree(random, hands[0]);
-    let other = if kind == 0 { one.clone() } else { some_tree(random, hands[1]) };
-    let mut of = |tree: &Tree, blocks| full_log(random, blocks, |random| short_episode(random, tree, 3));
+    let other = if kind == 0 || kind == 4 { one.clone() } else { some_tree(random, hands[1]) };
+    let next = |random: &mut Random, tree: &Tree| {
+        let events = short_episode(random, tree, 3);
+        if kind == 4 {
+            return put_anywhere(random, &events);
+        }
+        events
+    };
+    let mut of = |tree: &Tree, blocks| full_log(random, blocks, |random| next(random, tree));
     (of(&one, blocks), of(&other, others))
 }
 

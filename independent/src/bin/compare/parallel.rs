@@ -7,7 +7,7 @@ use independent::calls::MINING_WORK;
 use independent::generate::components::{dealt, episodes_with, every_list, possible, Component, Has, Way, KINDS};
 use independent::generate::random::Random;
 use independent::generate::trees::some_codes;
-use independent::log::{log_of, Episode};
+use independent::log::{log_of, Episode, EVENT_CODES};
 use independent::tree::{Operator, Tree};
 use std::collections::BTreeSet;
 
@@ -54,13 +54,13 @@ fn several_codes(random: &mut Random, kinds: &[Has]) -> (Vec<Component>, u8) {
     (dealt(random, kinds, &codes[1..]), codes[0])
 }
 
-/// Six components and more, up to one for each of the 32 codes, of all kinds or of some.
+/// Six components and more, up to one for each of the 31 codes, of all kinds or of some.
 pub fn many_components(tally: &mut Tally) {
     let mut random = Random::seeded(37);
-    for (count, round) in (6..=32).flat_map(|count| (0..8).map(move |round| (count, round))) {
+    for (count, round) in (6..=EVENT_CODES).flat_map(|count| (0..8).map(move |round| (count, round))) {
         let from = [&KINDS[..], &KINDS[..3], &KINDS[1..3], &KINDS[1..]][round % 4];
         let kinds = some_kinds(&mut random, from, count);
-        let codes = random.between(count, 32);
+        let codes = random.between(count, EVENT_CODES);
         let codes = some_codes(&mut random, codes);
         let components = dealt(&mut random, &kinds, &codes);
         let way = Way { longest: random.between(20, 58), through_all: false };
@@ -130,7 +130,7 @@ fn note(tally: &mut Tally, plan: &Plan, parts: usize) {
     let pairs = count(Has::Starts).min(count(Has::Ends));
     tally.holds("a log has as many parallel parts as its components allow", parts == count(Has::Both) + pairs);
     if parts < 2 {
-        return tally.meets("no parallel cut: one part alone");
+        return tally.meets("mining", "no parallel cut: one part alone");
     }
     let first = plan.components.iter().min_by_key(|component| component.codes.iter().min()).map(|first| first.has);
     let joined = parts < plan.components.len();
@@ -146,5 +146,5 @@ fn note(tally: &mut Tally, plan: &Plan, parts: usize) {
         ("joined below a choice", joined && matches!(plan.place, Place::Beside(_))),
         ("joined below a loop", joined && matches!(plan.place, Place::Around(_))),
     ];
-    forms.into_iter().filter(|(_, met)| *met).for_each(|(form, _)| tally.meets(form));
+    forms.into_iter().filter(|(_, met)| *met).for_each(|(form, _)| tally.meets("mining", form));
 }

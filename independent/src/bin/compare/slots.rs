@@ -1,13 +1,15 @@
 //! Mining logs whose episodes meet in a table of slots, found by a number made of their codes: many for a few slots, more than
 //! there are slots, and two that are nearly equal where one is looked for in the slot of the other.
 
+use crate::forms::IN_ONE_SLOT;
 use crate::gathering::Miner;
 use crate::tally::Tally;
 use independent::fast::{number_of, SLOTS};
 use independent::generate::distinct::{crowd, every_episode};
+use independent::generate::heartbeats::put_anywhere;
 use independent::generate::random::Random;
 use independent::generate::trees::some_codes;
-use independent::log::{log_of, Episode};
+use independent::log::{log_of, Episode, EVENT_CODES};
 use std::ops::Range;
 
 type Number = fn(&[u8]) -> u32;
@@ -29,12 +31,12 @@ pub fn crowded(tally: &mut Tally) {
     let mut miner = Miner::new(tally);
     let slots = |number| [0, 1_000, SLOTS - 1].map(|slot| (number, slot));
     for (number, slot) in NUMBERS.into_iter().chain([sum as Number]).flat_map(slots) {
-        let crowd = crowd(every_episode(31, 3), slot, number);
+        let crowd = crowd(every_episode(30, 3), slot, number);
         crowds(&mut miner, &crowd, &last_for(slot, number));
     }
 }
 
-/// The last record alone has code 31.
+/// The last record alone has code 30.
 fn crowds(miner: &mut Miner, crowd: &[Episode], last: &Episode) {
     for (count, times) in [(31, 1), (32, 1), (33, 1), (64, 2), (500, 2), (2_000, 1)] {
         let mut episodes = vec![&crowd[..count]; times].concat();
@@ -43,24 +45,24 @@ fn crowds(miner: &mut Miner, crowd: &[Episode], last: &Episode) {
     }
 }
 
-/// The episode with code 31 whose slot comes first.
+/// The episode with code 30 whose slot comes first.
 fn last_for(slot: usize, number: Number) -> Episode {
-    let mut episodes = every_episode(32, 3);
-    episodes.retain(|episode| episode.contains(&31));
+    let mut episodes = every_episode(31, 3);
+    episodes.retain(|episode| episode.contains(&30));
     crowd(episodes, slot, number).swap_remove(0)
 }
 
 /// About as many distinct episodes as there are slots, and more, from the shortest on and from the longest; the last record
-/// alone has code 31.
+/// alone has code 30.
 pub fn more_than_slots(tally: &mut Tally) {
     let mut miner = Miner::new(tally);
-    let all: Vec<Episode> = (1..=3).flat_map(|length| every_episode(31, length)).collect();
-    for (count, turned) in [2_047, 2_048, 2_049, 2_260].into_iter().flat_map(|count| [(count, false), (count, true)]) {
+    let all: Vec<Episode> = (1..=3).flat_map(|length| every_episode(30, length)).collect();
+    for (count, turned) in [2_047, 2_048, 2_049, 2_250].into_iter().flat_map(|count| [(count, false), (count, true)]) {
         let mut episodes = all[..count].to_vec();
         if turned {
             episodes.reverse();
         }
-        episodes.push(vec![31]);
+        episodes.push(vec![30]);
         miner.tells_from(log_of(&episodes).expect("16 blocks hold them"), &all[..count]);
     }
 }
@@ -84,16 +86,16 @@ fn kinds() -> Vec<Nearly> {
 }
 
 impl Nearly {
-    /// Two of the kind with codes below 20; where they are long, one code fills all places but the one.
+    /// Two of the kind with codes below 19; where they are long, one code fills all places but the one.
     fn drawn(self, random: &mut Random) -> [Episode; 2] {
-        let codes = some_codes(random, 32).into_iter().filter(|&code| code < 20).collect::<Episode>();
+        let codes = some_codes(random, EVENT_CODES).into_iter().filter(|&code| code < 19).collect::<Episode>();
         let one = |length: usize| if length > 15 { vec![codes[0]; length] } else { codes[..length].to_vec() };
         let mut pair = match self {
             Nearly::Beginning { length, shorter } => [one(length), one(shorter)],
             Nearly::ButFor { length, .. } | Nearly::Turned { length } => [one(length), one(length)],
         };
         match self {
-            Nearly::ButFor { place, .. } => (pair[0][place], pair[1][place]) = (codes[18], codes[19]),
+            Nearly::ButFor { place, .. } => (pair[0][place], pair[1][place]) = (codes[17], codes[18]),
             Nearly::Turned { length } => pair[1][random.below(length - 1)..].rotate_left(1),
             Nearly::Beginning { .. } => {}
         }
@@ -104,7 +106,7 @@ impl Nearly {
 
 struct Table {
     number: Number,
-    /// For each slot an episode of codes from 20 on.
+    /// For each slot an episode of codes from 19 on.
     others: Vec<Episode>,
 }
 
@@ -112,7 +114,7 @@ impl Table {
     fn of(number: Number) -> Table {
         let mut table = Table { number, others: vec![vec![]; SLOTS] };
         for mut episode in every_episode(12, 4) {
-            episode.iter_mut().for_each(|code| *code += 20);
+            episode.iter_mut().for_each(|code| *code += 19);
             let slot = table.slot(&episode);
             table.others[slot] = episode;
         }
@@ -136,17 +138,29 @@ pub fn nearly_equal(tally: &mut Tally) {
     let mut random = Random::seeded(40);
     let mut miner = Miner::new(tally);
     for table in NUMBERS.map(Table::of) {
-        kinds().into_iter().for_each(|kind| meet(&mut miner, &mut random, &table, kind));
+        for kind in kinds() {
+            meet(&mut miner, &mut random, &table, kind);
+        }
     }
 }
 
 /// The one's slot is at most 31 behind that of the other, which comes last. Some codes are never so near.
 fn meet(miner: &mut Miner, random: &mut Random, table: &Table, kind: Nearly) {
     let drawn = std::iter::repeat_with(|| kind.drawn(random)).take(2_000);
-    for [one, last] in drawn.filter(|[one, last]| table.between(last, one).len() < 32).take(2) {
+    let near = drawn.filter(|[one, last]| table.between(last, one).len() < 32).take(2).collect::<Vec<_>>();
+    for [one, last] in near {
         let taken = table.between(&last, &one).map(|slot| table.others[slot % SLOTS].clone());
-        let before: Vec<Episode> = taken.chain([one]).collect();
-        let log = log_of(&[&before[..], &[last]].concat()).expect("two blocks hold them");
-        miner.tells_from(log, &before);
+        let mut episodes: Vec<Episode> = taken.chain([one, last]).collect();
+        mine_last(miner, &episodes);
+        // The same with heartbeats in all of them, which must lead to the same slots.
+        episodes.iter_mut().for_each(|events| *events = put_anywhere(random, events));
+        miner.meets(IN_ONE_SLOT);
+        mine_last(miner, &episodes);
     }
+}
+
+/// Mines a log whose last episode shows in the tree.
+fn mine_last(miner: &mut Miner, episodes: &[Episode]) {
+    let log = log_of(episodes).expect("two blocks hold them");
+    miner.tells_from(log, &episodes[..episodes.len() - 1]);
 }

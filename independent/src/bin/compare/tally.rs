@@ -1,5 +1,6 @@
 //! Runs cases on all sides and counts what agreed and which rows of the table were met.
 
+use crate::forms::{Built, FORMS};
 use crate::trial::{run, Case, Outcome, GUARD};
 use independent::answer::unpacked;
 use independent::bridge::Bridge;
@@ -26,8 +27,8 @@ pub struct Tally {
     verdicts: [usize; 2],
     /// How often each law of the outcomes held and did not.
     laws: BTreeMap<&'static str, [usize; 2]>,
-    /// How often each form came up of the parallel cuts that logs were built for.
-    forms: BTreeMap<&'static str, usize>,
+    /// How often each form came up that a call's cases were built for.
+    forms: BTreeMap<(&'static str, &'static str), usize>,
 }
 
 /// The numbers that each call gives, 0 for accepting; every one must be met.
@@ -37,21 +38,6 @@ const NUMBERS: [(&str, &[u8]); 5] = [
     ("mining", &[0, 1, 2, 3, 4, 5, 6, 7]),
     ("checking", &[0, 8, 9]),
     ("judging", &[0, 3, 8, 9, 10, 11]),
-];
-
-/// The forms of the parallel cuts that logs were built for; every one must be met.
-const FORMS: [&str; 11] = [
-    "no parallel cut: one part alone",
-    "every component a part",
-    "a part of several components",
-    "two components paired",
-    "a component without a partner",
-    "a component with neither",
-    "the smallest code in one without a partner",
-    "the smallest code in one with neither",
-    "joined below a sequence",
-    "joined below a choice",
-    "joined below a loop",
 ];
 
 fn side(gateway: Box<dyn Gateway>, only_nothing: bool) -> Side {
@@ -120,8 +106,8 @@ impl Tally {
         self.laws.entry(law).or_default()[!held as usize] += 1;
     }
 
-    pub fn meets(&mut self, form: &'static str) {
-        *self.forms.entry(form).or_default() += 1;
+    pub fn meets(&mut self, call: &'static str, form: &'static str) {
+        *self.forms.entry((call, form)).or_default() += 1;
     }
 
     /// Prints the counts of the calls that were asked for, each of whose numbers must have been met.
@@ -137,8 +123,8 @@ impl Tally {
             println!("verdicts: {} fit, {} misfit", self.verdicts[1], self.verdicts[0]);
             unmet += self.verdicts.iter().filter(|&&count| count == 0).count();
         }
-        if "mining".starts_with(wanted) {
-            unmet += self.report_forms();
+        for built in FORMS.iter().filter(|built| built.call.starts_with(wanted)) {
+            unmet += self.report_forms(built);
         }
         let mut broken = 0;
         for (law, [held, not]) in &self.laws {
@@ -155,12 +141,12 @@ impl Tally {
     }
 
     /// Prints how often each form came up and answers how many did not.
-    fn report_forms(&self) -> usize {
-        let counts = FORMS.map(|form| (form, self.forms.get(form).copied().unwrap_or(0)));
-        for (form, count) in counts {
-            println!("built components, {form}: {count} logs");
+    fn report_forms(&self, built: &Built) -> usize {
+        let count = |form: &&'static str| self.forms.get(&(built.call, *form)).copied().unwrap_or(0);
+        for form in built.forms {
+            println!("{}, {}, {form}: {} cases", built.call, built.with, count(form));
         }
-        counts.iter().filter(|(_, count)| *count == 0).count()
+        built.forms.iter().filter(|form| count(form) == 0).count()
     }
 }
 

@@ -6,6 +6,7 @@ use independent::block::{write_check, BLOCK};
 use independent::generate::damage::{damage_tree, TREE_DAMAGES};
 use independent::generate::random::Random;
 use independent::generate::trees::{some_codes, some_tree, OPERATORS};
+use independent::log::EVENT_CODES;
 use independent::tree::{Operator, Tree};
 
 fn check(tally: &mut Tally, tree: &[u8]) {
@@ -13,7 +14,7 @@ fn check(tally: &mut Tally, tree: &[u8]) {
 }
 
 fn any_tree(random: &mut Random) -> Tree {
-    let count = random.between(0, 32);
+    let count = random.between(0, EVENT_CODES);
     let codes = some_codes(random, count);
     some_tree(random, &codes)
 }
@@ -85,7 +86,7 @@ fn special_trees() -> Vec<Tree> {
     for _ in 0..63 {
         other_comb = Tree::Node(Operator::Sequence, vec![other_comb, Tree::Silent]);
     }
-    let mut trees = vec![Tree::Silent, Tree::Activity(0), Tree::Activity(31), comb, other_comb];
+    let mut trees = vec![Tree::Silent, Tree::Activity(0), Tree::Activity(30), comb, other_comb];
     trees.extend([2, 3, 125, 126].map(|count| flat(Operator::Parallel, count)));
     trees
 }

@@ -92,7 +92,12 @@ impl Outcome {
 
     /// The tree that mining wrote.
     pub fn tree(&self) -> Option<Tree> {
-        well_formed(self.bytes.get(1)?.get(GUARD..GUARD + BLOCK)?)
+        well_formed(self.lent(1).get(..BLOCK)?)
+    }
+
+    /// The lent bytes of this number, their guards taken off.
+    pub fn lent(&self, number: usize) -> &[u8] {
+        &self.bytes[number][GUARD..self.bytes[number].len() - GUARD]
     }
 }
 
