@@ -1,5 +1,5 @@
 -- What the graph of a log says: tables, edges, and reach by chains of edges.
-use mathlib.Core.Path.{◌≡◌, refl, subst}
+use mathlib.Core.Path.{◌≡◌, refl, sym, subst}
 use mathlib.Core.Logic.{◌⊎◌, inl, inr, ⊎_elim}
 use mathlib.Core.List.{List, [], ◌∷◌}
 use mathlib.Core.Bool.{true, ◌&&◌, ◌||◌, false≢true}
@@ -50,7 +50,7 @@ last_has x (y ∷ t) = inr (last_has y t)
 
 pub end_has : (c : ℕ) (t : Episode) → ends_with c t ≡ true → Has c t
 end_has c [] h = absurd (false≢true h)
-end_has c (x ∷ t) h = rw (eqb-true c (last_of x t) h) (last_has x t)
+end_has c (x ∷ t) h = subst (λ (d : ℕ). Has d (x ∷ t)) (sym (eqb-true c (last_of x t) h)) (last_has x t)
 
 pub step_codes : (a b : ℕ) (t : Episode) → follows a b t ≡ true → Has a t × Has b t
 step_codes a b [] h = absurd (false≢true h)
