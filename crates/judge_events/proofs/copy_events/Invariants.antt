@@ -1,0 +1,12 @@
+use Prim.Native.Nat.{◌-◌, ◌≤◌}
+use native.Mathlib.Omega.{arith}
+use lib.ListN.{length}
+use Rattle.judge_events.proofs.CopyLaws.{Copied, copied_none, copied_beat, copied_event, copied_all}
+use borrow.Author.Rules.{rules}
+use Rattle.judge_events.proofs.copy_events.Given as goal
+
+abbrev pub invariant-loop-i : goal.invariant-loop-i
+invariant-loop-i l = (l.i ≤ length l.episode) × Copied l.episode l.initial.out l.n l.i l.out
+
+abbrev pub decreases-loop-i : goal.decreases-loop-i
+decreases-loop-i l = length l.episode - l.i
