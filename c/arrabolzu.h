@@ -9,20 +9,14 @@
  *   bits 0 to 31    the call's value; for a refusal its place
  *
  * The macros below take an answer apart. A refusal has written nothing anywhere. Lengths count elements: bytes, for the work
- * of judging 64-bit numbers, for the report 32-bit numbers. They are 64 bits wide on every processor, whatever its size_t is.
- * A pointer must point to as many elements as its length says; with length 0 it is not read. What a call is lent to write may
- * not overlap what it reads. The calls keep no state and allocate nothing.
+ * of judging 64-bit numbers. They are 64 bits wide on every processor, whatever its size_t is. A pointer must point to as many
+ * elements as its length says; with length 0 it is not read. What a call is lent to write may not overlap what it reads. The
+ * calls keep no state and allocate nothing.
  *
  * A code is a number from 0 to 31. Code 31 is a heartbeat, which newer firmware writes every few seconds. The events of a
  * record or of a lent episode are its codes other than 31, in order; heartbeats alone make an empty episode. Reading and adding
  * keep heartbeats, and every length and place counts them. Mining and judging go by the events alone. No leaf of a tree has
  * code 31: a tree with such a leaf gets 9, as does every other that is not well formed. README.md has the table of refusals.
- *
- * Log blocks have two editions, and a call's name says which it means; nothing in a block does. In the first an event is its
- * code. In the second, the stamped one, an event is three bytes in log blocks, in parts handed on and in episodes to add: its
- * code, then a tick of 16 bits, lowest byte first. A length byte counts events in both, so a stamped record of n events takes
- * 3n + 1 bytes, and 5 and 12 go by these. A tick may be any two bytes; 6 and 11 look at the codes alone and give the place of
- * the code's byte.
  */
 #ifndef ARRABOLZU_H
 #define ARRABOLZU_H
@@ -37,10 +31,8 @@ extern "C" {
 #define ARRABOLZU_LOG 8192         /* bytes of the longest log, 16 blocks */
 #define ARRABOLZU_EPISODE 63       /* codes of the longest episode, heartbeats counted */
 #define ARRABOLZU_HEARTBEAT 31     /* the code of a heartbeat, which is no event */
-#define ARRABOLZU_STAMPED 3        /* bytes of a stamped event: its code, then its tick, lowest byte first */
 #define ARRABOLZU_MINE_WORK 16384  /* bytes of work that mining needs */
 #define ARRABOLZU_JUDGE_WORK 8128  /* 64-bit numbers of work that judging needs */
-#define ARRABOLZU_GAPS 1024        /* 32-bit numbers that the report fills */
 
 #define ARRABOLZU_REFUSAL(answer) ((unsigned)((uint64_t)(answer) >> 32))             /* 0 where the call was accepted */
 #define ARRABOLZU_VALUE(answer) ((uint32_t)((uint64_t)(answer) & UINT32_C(0xffffffff))) /* the value, or the refusal's place */
@@ -69,29 +61,6 @@ uint64_t arrabolzu_check(const uint8_t *tree, uint64_t tree_length);
  * Refusals, in this order: 8 for the length, 3, 8 for the check, 9, 10, 11. */
 uint64_t arrabolzu_judge(const uint8_t *tree, uint64_t tree_length, const uint8_t *episode, uint64_t episode_length,
                          uint64_t *work, uint64_t work_length);
-
-/* Reads the stamped record whose length byte is at `at` of a log block. Value: the place of the next length byte; the record's
- * events, heartbeats among them, are the bytes from at + 1 up to it, three an event. Tests neither the block's check nor its
- * count. Refusals: 1; 5 or 6 at this record. */
-uint64_t arrabolzu_read_stamped(const uint8_t *block, uint64_t block_length, uint64_t at);
-
-/* Adds a stamped episode, three bytes an event and heartbeats among them, to a log block of stamped records; its length counts
- * bytes. Value: the new count. Writes the record, the count and the check; no other byte changes. Refusals, in this order: 1,
- * 4, 5 or 6 and padding, 10 for more than 63 events or no multiple of 3 bytes, 11, 12. */
-uint64_t arrabolzu_add_stamped(uint8_t *block, uint64_t block_length, const uint8_t *episode, uint64_t episode_length);
-
-/* Mines the tree of a stamped log of 1 to 16 blocks, ticks passed over: all is as arrabolzu_mine leaves it for the log of the
- * codes. Refusals, in this order: 1, 2, 3, then block by block 4, 5 or 6, padding; 7 last. */
-uint64_t arrabolzu_mine_stamped(const uint8_t *log, uint64_t log_length, uint8_t *out, uint64_t out_length, uint8_t *work,
-                                uint64_t work_length);
-
-/* Reports on a stamped log of 1 to 16 blocks how long one event directly following another took. Value: how many pairs of codes
- * occur so. Fills the first 1,024 numbers of `gaps`, at 32 times the first code plus the second: the largest gap of that pair
- * plus 1, or 0 where the pair does not occur; what is lent beyond is as found. A gap is the later tick less the earlier one
- * modulo 65,536, so 65,530 and then 4 make 10. Both events of a pair stand in one record; heartbeats are passed over: codes a,
- * 31, b are the pair a, b with the gap from the tick of a to that of b. Refusals, in this order: 1; 2 for fewer than 1,024
- * numbers; then block by block 4, 5 or 6, padding; 7 last. */
-uint64_t arrabolzu_gaps(const uint8_t *log, uint64_t log_length, uint32_t *gaps, uint64_t gaps_length);
 
 #ifdef __cplusplus
 }

@@ -1,5 +1,4 @@
-/* Reads a log on standard input, mines its tree, and judges every episode of the log and one more against it; then adds a stamped
-   episode to a block and reports on it. */
+/* Reads a log on standard input, mines its tree, and judges every episode of the log and one more against it. */
 #include <stdio.h>
 
 #include "arrabolzu.h"
@@ -39,19 +38,6 @@ static unsigned fitting(const uint8_t *block) {
     return fits;
 }
 
-/* Code 0 at tick 65,530, then code 4 when the counter has gone round to 4. */
-static void report(void) {
-    static const uint8_t episode[] = {0, 0xfa, 0xff, 4, 0x04, 0x00};
-    static uint8_t block[ARRABOLZU_BLOCK];
-    static uint32_t gaps[ARRABOLZU_GAPS];
-    if (refused("adding", arrabolzu_add_stamped(block, sizeof block, episode, sizeof episode))) {
-        return;
-    }
-    if (!refused("the report", arrabolzu_gaps(block, sizeof block, gaps, ARRABOLZU_GAPS)) && gaps[32 * 0 + 4] > 0) {
-        printf("4 follows 0 after %u ticks at most\n", (unsigned)(gaps[32 * 0 + 4] - 1));
-    }
-}
-
 int main(void) {
     size_t length = fread(log_bytes, 1, sizeof log_bytes, stdin);
     uint64_t mined = arrabolzu_mine(log_bytes, length, tree, sizeof tree, mine_work, sizeof mine_work);
@@ -68,6 +54,5 @@ int main(void) {
     printf("%u of %u episodes fit\n", fits, episodes);
     static const uint8_t other[] = {30};
     printf("the episode 30 %s\n", judge(other, sizeof other) ? "fits" : "does not fit");
-    report();
     return 0;
 }

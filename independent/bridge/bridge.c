@@ -16,7 +16,7 @@ uint64_t on_stack(void *argument, uint64_t (*function)(void *), void *top);
 enum { GUARD = 61, GUARD_BYTE = 0x5c, PAINT_BYTE = 0xa5, STACK = 1 << 18 };
 
 /* NOTHING is no call: what a measurement has beside the call. */
-enum { NOTHING, READ, ADD, MINE, CHECK, JUDGE, READ_STAMPED, ADD_STAMPED, MINE_STAMPED, GAPS };
+enum { NOTHING, READ, ADD, MINE, CHECK, JUDGE };
 
 /* What comes first in a request; the lent cells follow, as many as length says and each as many bytes wide as width says. */
 struct request {
@@ -96,10 +96,6 @@ static uint64_t call(void *argument) {
     case MINE: return arrabolzu_mine(at[0], length[0], at[1], length[1], at[2], length[2]);
     case CHECK: return arrabolzu_check(at[0], length[0]);
     case JUDGE: return arrabolzu_judge(at[0], length[0], at[1], length[1], at[2], length[2]);
-    case READ_STAMPED: return arrabolzu_read_stamped(at[0], length[0], lent->asked.at);
-    case ADD_STAMPED: return arrabolzu_add_stamped(at[0], length[0], at[1], length[1]);
-    case MINE_STAMPED: return arrabolzu_mine_stamped(at[0], length[0], at[1], length[1], at[2], length[2]);
-    case GAPS: return arrabolzu_gaps(at[0], length[0], at[1], length[1]);
     }
     exit(2);
     return 0;

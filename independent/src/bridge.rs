@@ -16,7 +16,6 @@ pub enum Lent<'a> {
     Read(&'a [u8]),
     Write(&'a mut [u8]),
     Numbers(&'a mut [u64]),
-    Gaps(&'a mut [u32]),
 }
 
 impl Lent<'_> {
@@ -26,7 +25,6 @@ impl Lent<'_> {
             Lent::Read(bytes) => (bytes.to_vec(), 1),
             Lent::Write(bytes) => (bytes.to_vec(), 1),
             Lent::Numbers(numbers) => (numbers.iter().flat_map(|number| number.to_le_bytes()).collect(), 8),
-            Lent::Gaps(gaps) => (gaps.iter().flat_map(|gap| gap.to_le_bytes()).collect(), 4),
         }
     }
 
@@ -38,11 +36,6 @@ impl Lent<'_> {
             Lent::Numbers(numbers) => {
                 for (number, eight) in numbers.iter_mut().zip(after.chunks(8)) {
                     *number = u64::from_le_bytes(eight.try_into().expect("8 bytes"));
-                }
-            }
-            Lent::Gaps(gaps) => {
-                for (gap, four) in gaps.iter_mut().zip(after.chunks(4)) {
-                    *gap = u32::from_le_bytes(four.try_into().expect("4 bytes"));
                 }
             }
         }
@@ -59,10 +52,6 @@ pub enum Asked {
     Mine,
     Check,
     Judge,
-    ReadStamped,
-    AddStamped,
-    MineStamped,
-    Gaps,
 }
 
 /// A call with its place, where it has one, and all that it is lent.
@@ -169,22 +158,6 @@ impl Gateway for Bridge {
 
     fn judge(&self, tree: &[u8], episode: &[u8], work: &mut [u64]) -> u64 {
         self.answer(Asked::Judge, 0, vec![Lent::Read(tree), Lent::Read(episode), Lent::Numbers(work)])
-    }
-
-    fn read_stamped(&self, block: &[u8], at: usize) -> u64 {
-        self.answer(Asked::ReadStamped, at, vec![Lent::Read(block)])
-    }
-
-    fn add_stamped(&self, block: &mut [u8], episode: &[u8]) -> u64 {
-        self.answer(Asked::AddStamped, 0, vec![Lent::Write(block), Lent::Read(episode)])
-    }
-
-    fn mine_stamped(&self, log: &[u8], out: &mut [u8], work: &mut [u8]) -> u64 {
-        self.answer(Asked::MineStamped, 0, vec![Lent::Read(log), Lent::Write(out), Lent::Write(work)])
-    }
-
-    fn gaps(&self, log: &[u8], gaps: &mut [u32]) -> u64 {
-        self.answer(Asked::Gaps, 0, vec![Lent::Read(log), Lent::Gaps(gaps)])
     }
 }
 

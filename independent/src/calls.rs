@@ -1,16 +1,14 @@
-//! The nine calls over lent memory: their refusals in order, and what they write.
+//! The five calls over lent memory: their refusals in order, and what they write.
 
 use crate::answer::{packed, refuse, Answer};
 use crate::block::{check_is_right, BLOCK};
-use crate::edition::{Edition, First, Second};
-use crate::gaps::{gaps_of, place_of, GAPS};
 use crate::tree::{well_formed, Tree};
 use crate::{judge, log, mine};
 
 pub const MINING_WORK: usize = 16_384;
 pub const JUDGING_WORK: usize = 8_128;
 
-/// One side of a comparison: the nine calls with their answers as they cross the boundary.
+/// One side of a comparison: the five calls with their answers as they cross the boundary.
 pub trait Gateway {
     fn name(&self) -> &'static str;
     fn read(&self, block: &[u8], at: usize) -> u64;
@@ -18,10 +16,6 @@ pub trait Gateway {
     fn mine(&self, log: &[u8], out: &mut [u8], work: &mut [u8]) -> u64;
     fn check(&self, tree: &[u8]) -> u64;
     fn judge(&self, tree: &[u8], episode: &[u8], work: &mut [u64]) -> u64;
-    fn read_stamped(&self, block: &[u8], at: usize) -> u64;
-    fn add_stamped(&self, block: &mut [u8], episode: &[u8]) -> u64;
-    fn mine_stamped(&self, log: &[u8], out: &mut [u8], work: &mut [u8]) -> u64;
-    fn gaps(&self, log: &[u8], gaps: &mut [u32]) -> u64;
 }
 
 /// The implementation that follows the pages word by word.
@@ -33,15 +27,15 @@ impl Gateway for Plain {
     }
 
     fn read(&self, block: &[u8], at: usize) -> u64 {
-        packed(read(First, block, at))
+        packed(read(block, at))
     }
 
     fn add(&self, block: &mut [u8], episode: &[u8]) -> u64 {
-        packed(First.add(block, episode))
+        packed(log::add(block, episode))
     }
 
     fn mine(&self, log: &[u8], out: &mut [u8], work: &mut [u8]) -> u64 {
-        packed(mine_log(First, log, out, work))
+        packed(mine_log(log, out, work))
     }
 
     fn check(&self, tree: &[u8]) -> u64 {
@@ -51,34 +45,18 @@ impl Gateway for Plain {
     fn judge(&self, tree: &[u8], episode: &[u8], work: &mut [u64]) -> u64 {
         packed(judge_episode(tree, episode, work))
     }
-
-    fn read_stamped(&self, block: &[u8], at: usize) -> u64 {
-        packed(read(Second, block, at))
-    }
-
-    fn add_stamped(&self, block: &mut [u8], episode: &[u8]) -> u64 {
-        packed(Second.add(block, episode))
-    }
-
-    fn mine_stamped(&self, log: &[u8], out: &mut [u8], work: &mut [u8]) -> u64 {
-        packed(mine_log(Second, log, out, work))
-    }
-
-    fn gaps(&self, log: &[u8], gaps: &mut [u32]) -> u64 {
-        packed(report(log, gaps))
-    }
 }
 
 /// Answers the place of the next record.
-pub fn read(edition: Edition, block: &[u8], at: usize) -> Answer<usize> {
+pub fn read(block: &[u8], at: usize) -> Answer<usize> {
     if block.len() != BLOCK {
         return refuse(1, 0);
     }
-    edition.record_at(block, at).map(|events| events.end)
+    log::record_at(block, at).map(|codes| codes.end)
 }
 
 /// Writes the mined tree's block and answers its number of nodes.
-pub fn mine_log(edition: Edition, log: &[u8], out: &mut [u8], work: &mut [u8]) -> Answer<usize> {
+pub fn mine_log(log: &[u8], out: &mut [u8], work: &mut [u8]) -> Answer<usize> {
     if !log::length_is_right(log) {
         return refuse(1, 0);
     }
@@ -88,7 +66,7 @@ pub fn mine_log(edition: Edition, log: &[u8], out: &mut [u8], work: &mut [u8]) -
     if work.len() < MINING_WORK {
         return refuse(3, 0);
     }
-    let episodes = edition.episodes_of(log)?;
+    let episodes = log::episodes_of(log)?;
     let tree = mine::mine(&episodes.into_iter().collect());
     out[..BLOCK].copy_from_slice(&tree.block());
     work[..MINING_WORK].fill(0);
@@ -119,23 +97,7 @@ pub fn judge_episode(tree: &[u8], episode: &[u8], work: &mut [u64]) -> Answer<us
         return refuse(3, 0);
     }
     let tree = tree_of(tree)?;
-    First.check_episode(episode)?;
+    log::check_episode(episode)?;
     work[..JUDGING_WORK].fill(0);
     Ok(judge::fits(&tree, &log::events_of(episode)) as usize)
-}
-
-/// Writes the gaps of a stamped log, each plus 1, and answers how many pairs occur.
-pub fn report(log: &[u8], gaps: &mut [u32]) -> Answer<usize> {
-    if !log::length_is_right(log) {
-        return refuse(1, 0);
-    }
-    if gaps.len() < GAPS {
-        return refuse(2, 0);
-    }
-    let pairs = gaps_of(log)?;
-    gaps[..GAPS].fill(0);
-    for (&(first, second), &gap) in &pairs {
-        gaps[place_of(first, second)] = gap as u32 + 1;
-    }
-    Ok(pairs.len())
 }

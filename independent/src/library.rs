@@ -16,17 +16,6 @@ extern "C" {
         work: *mut u64,
         work_len: usize,
     ) -> u64;
-    fn arrabolzu_read_stamped(block: *const u8, len: usize, at: usize) -> u64;
-    fn arrabolzu_add_stamped(block: *mut u8, len: usize, episode: *const u8, episode_len: usize) -> u64;
-    fn arrabolzu_mine_stamped(
-        log: *const u8,
-        len: usize,
-        out: *mut u8,
-        out_len: usize,
-        work: *mut u8,
-        work_len: usize,
-    ) -> u64;
-    fn arrabolzu_gaps(log: *const u8, len: usize, gaps: *mut u32, gaps_len: usize) -> u64;
 }
 
 pub struct Library {
@@ -81,24 +70,5 @@ impl Gateway for Library {
     fn judge(&self, tree: &[u8], episode: &[u8], work: &mut [u64]) -> u64 {
         let (tree_at, episode_at, len) = (self.lent(tree), self.lent(episode), work.len());
         unsafe { arrabolzu_judge(tree_at, tree.len(), episode_at, episode.len(), self.lent_mut(work), len) }
-    }
-
-    fn read_stamped(&self, block: &[u8], at: usize) -> u64 {
-        unsafe { arrabolzu_read_stamped(self.lent(block), block.len(), at) }
-    }
-
-    fn add_stamped(&self, block: &mut [u8], episode: &[u8]) -> u64 {
-        unsafe { arrabolzu_add_stamped(self.lent_mut(block), block.len(), self.lent(episode), episode.len()) }
-    }
-
-    fn mine_stamped(&self, log: &[u8], out: &mut [u8], work: &mut [u8]) -> u64 {
-        let (log_at, out_len, work_len) = (self.lent(log), out.len(), work.len());
-        let (out_at, work_at) = (self.lent_mut(out), self.lent_mut(work));
-        unsafe { arrabolzu_mine_stamped(log_at, log.len(), out_at, out_len, work_at, work_len) }
-    }
-
-    fn gaps(&self, log: &[u8], gaps: &mut [u32]) -> u64 {
-        let len = gaps.len();
-        unsafe { arrabolzu_gaps(self.lent(log), log.len(), self.lent_mut(gaps), len) }
     }
 }

@@ -1,9 +1,7 @@
-//! What the three programs print.
+//! What the two programs print.
 
 use crate::answer::{refuse, Answer, Refusal};
 use crate::block::BLOCK;
-use crate::edition::First;
-use crate::gaps::gaps_of;
 use crate::{calls, judge, log, tree};
 
 fn kind_name(kind: u8) -> &'static str {
@@ -25,7 +23,7 @@ fn refusal_line(refusal: Refusal) -> String {
 pub fn mining_output(log: &[u8]) -> String {
     let mut block = [0; BLOCK];
     let mut work = vec![0; calls::MINING_WORK];
-    match calls::mine_log(First, log, &mut block, &mut work) {
+    match calls::mine_log(log, &mut block, &mut work) {
         Ok(nodes) => tree_lines(&block, nodes),
         Err(refusal) => refusal_line(refusal),
     }
@@ -46,18 +44,4 @@ fn verdict_lines(block: &[u8], log: &[u8]) -> Answer<String> {
     let episodes = log::episodes_of(log)?;
     let verdict = |episode: &Vec<u8>| if judge::fits(&tree, episode) { "fits" } else { "misfit" };
     Ok(episodes.iter().zip(1..).map(|(episode, number)| format!("{number} {}\n", verdict(episode))).collect())
-}
-
-/// The report program's output for a stamped log: how many pairs occur, then each with its largest gap.
-pub fn gaps_output(log: &[u8]) -> String {
-    gap_lines(log).unwrap_or_else(refusal_line)
-}
-
-fn gap_lines(log: &[u8]) -> Answer<String> {
-    if !log::length_is_right(log) {
-        return refuse(1, 0);
-    }
-    let gaps = gaps_of(log)?;
-    let lines = gaps.iter().map(|((first, second), gap)| format!("{first} {second} {gap}\n"));
-    Ok(format!("pairs {}\n", gaps.len()) + &lines.collect::<String>())
 }

@@ -2,10 +2,8 @@
 
 use independent::answer::refuse;
 use independent::calls::{check, Gateway};
-use independent::edition::Second;
 use independent::fast::{number_of, Fast, SLOTS};
 use independent::generate::largest::{task, Task, BROKEN, SHAPES, WORST};
-use independent::generate::stamps::log_of_codes;
 use independent::log::{episodes_of, records_of, Episode, HEARTBEAT};
 use std::collections::{BTreeMap, BTreeSet};
 
@@ -42,79 +40,15 @@ fn log_of(name: &str) -> Vec<u8> {
 
 #[test]
 fn logs_have_what_they_are_said_to_have() {
-    let beside = |name: &str| name.starts_with("mine-stamped-") || name.starts_with("mine-codes-");
-    let mined = SHAPES.iter().map(|(name, _)| *name).filter(|name| name.starts_with("mine-") && !beside(name));
+    let mined = SHAPES.iter().filter(|(name, _)| name.starts_with("mine-")).map(|(name, _)| *name);
     assert_eq!(mined.collect::<Vec<_>>(), LOGS.map(|(name, _)| name));
     for (name, facts) in LOGS {
         let log = log_of(name);
+        let episodes = episodes_of(&log).expect("a sound log");
+        let distinct: BTreeSet<&Episode> = episodes.iter().collect();
+        let codes: BTreeSet<&u8> = episodes.iter().flatten().collect();
         let nodes = Fast.mine(&log, &mut [0; 512], &mut [0; 16_384]) as usize;
-        assert_eq!(facts_of(&episodes_of(&log).expect("a sound log"), nodes), facts, "{name}");
-    }
-}
-
-fn facts_of(episodes: &[Episode], nodes: usize) -> [usize; 4] {
-    let distinct: BTreeSet<&Episode> = episodes.iter().collect();
-    let codes: BTreeSet<&u8> = episodes.iter().flatten().collect();
-    [episodes.len(), distinct.len(), codes.len(), nodes]
-}
-
-/// Of each stamped log the same, and the blocks that the log of its codes takes.
-const STAMPED: [(&str, [usize; 4], usize); 9] = [
-    ("balanced", [259, 246, 31, 123], 6),
-    ("choice-sequence-comb", [176, 160, 31, 113], 6),
-    ("sequence-loop-comb", [79, 79, 31, 121], 6),
-    ("flower-of-pairs", [1_477, 398, 31, 33], 8),
-    ("parallel", [80, 80, 31, 35], 6),
-    ("one-event-episodes", [2_016, 31, 31, 32], 8),
-    ("forty-distinct", [71, 40, 31, 117], 6),
-    ("empty-records", [4_080, 1, 0, 1], 16),
-    ("heartbeats-between", [135, 128, 31, 123], 6),
-];
-
-#[test]
-fn stamped_logs_have_what_they_are_said_to_have() {
-    let mined = SHAPES.iter().filter_map(|(name, _)| name.strip_prefix("mine-stamped-"));
-    assert_eq!(mined.collect::<Vec<_>>(), STAMPED.map(|(name, ..)| name));
-    for (name, facts, blocks) in STAMPED {
-        let Some(Task::MineStamped { log }) = task(&format!("mine-stamped-{name}")) else { panic!("{name} is mined") };
-        let nodes = Fast.mine_stamped(&log, &mut [0; 512], &mut [0; 16_384]) as usize;
-        assert_eq!(facts_of(&Second.episodes_of(&log).expect("a sound log"), nodes), facts, "{name}");
-        let full = |block: &[u8]| block[0] == 255 || block[450..508].iter().any(|&byte| byte != 0);
-        assert!(log.len() == 8_192 && log.chunks(512).all(full), "{name} is full");
-        let codes = log_of(&format!("mine-codes-{name}"));
-        assert_eq!((log_of_codes(&log), codes.len()), (Some(codes), 512 * blocks), "{name}");
-    }
-}
-
-/// Of each log that is reported on: its records, its events with heartbeats, its heartbeats and the pairs that occur.
-const REPORTED: [(&str, [usize; 4]); 4] = [
-    ("gaps-balanced", [259, 2_565, 0, 78]),
-    ("gaps-flower", [104, 2_664, 0, 461]),
-    ("gaps-one-event-episodes", [2_016, 2_016, 0, 0]),
-    ("gaps-heartbeats-between", [135, 2_547, 1_206, 78]),
-];
-
-#[test]
-fn reported_logs_have_what_they_are_said_to_have() {
-    let named = SHAPES.iter().map(|(name, _)| *name).filter(|name| name.starts_with("gaps-"));
-    assert_eq!(named.collect::<Vec<_>>(), REPORTED.map(|(name, _)| name));
-    for (name, facts) in REPORTED {
-        let Some(Task::Report { log }) = task(name) else { panic!("{name} is reported on") };
-        let records = Second.records_of_log(&log).expect("a sound log");
-        let codes = Second.codes_of(&records.concat());
-        let beats = codes.iter().filter(|&&code| code == HEARTBEAT).count();
-        let pairs = Fast.gaps(&log, &mut [0; 1_024]) as usize;
-        assert_eq!([records.len(), codes.len(), beats, pairs], facts, "{name}");
-        assert_eq!(log.len(), 8_192, "{name}");
-    }
-}
-
-#[test]
-fn blocks_to_add_to_have_room_twice() {
-    for name in ["add-stamped", "add-codes"] {
-        let Some(Task::Add { edition, mut block, episode }) = task(name) else { panic!("{name} is added") };
-        assert_eq!((block[0], episode.len()), (45, 30 * edition.width()), "{name}");
-        assert_eq!([46, 47], [0, 1].map(|_| edition.add(&mut block, &episode).expect("it has room")));
+        assert_eq!([episodes.len(), distinct.len(), codes.len(), nodes], facts, "{name}");
     }
 }
 

@@ -1,7 +1,7 @@
 -- An answer as one number for a caller in C: bits 32 and up hold a refusal's number, 0 where there is none; bits 0 to 31 hold the
 -- value or the refusal's place.
 use Rattle.std.specs.Prelude.{◌≡◌, List, ℕ, ◌+◌, ◌*◌, ◌%◌}
-use Rattle.rules.specs.Calls.{AddSays, MineSays, GapsSays, JudgeSays}
+use Rattle.rules.specs.Calls.{AddSays, MineSays, JudgeSays}
 use Rattle.rules.specs.declared.Answer.{Answer}
 use Rattle.rules.specs.declared.Answer.TheVariants.{Gives, Refused}
 use Rattle.rules.specs.declared.Verdict.{Verdict}
@@ -17,20 +17,15 @@ packed_verdict Fits = 1
 packed_verdict Misfit = 0
 packed_verdict (Dismissed number place) = number * 4294967296 + place % 4294967296
 
--- the call's own promise, of events of w bytes, with its answer packed
-pub record AddPacked (w : ℕ) (b e : List ℕ) (r : ℕ) (b' : List ℕ) : Type 0 where
+-- the call's own promise, with its answer packed
+pub record AddPacked (b e : List ℕ) (r : ℕ) (b' : List ℕ) : Type 0 where
   pub answer : Answer
-  pub says : AddSays w b e answer b'
+  pub says : AddSays 1 b e answer b'
   pub told : r ≡ packed answer
 
-pub record MinePacked (w : ℕ) (log out work : List ℕ) (r : ℕ) (out' work' : List ℕ) : Type 0 where
+pub record MinePacked (log out work : List ℕ) (r : ℕ) (out' work' : List ℕ) : Type 0 where
   pub answer : Answer
-  pub says : MineSays w log out work answer out' work'
-  pub told : r ≡ packed answer
-
-pub record GapsPacked (log gaps : List ℕ) (r : ℕ) (gaps' : List ℕ) : Type 0 where
-  pub answer : Answer
-  pub says : GapsSays log gaps answer gaps'
+  pub says : MineSays 1 log out work answer out' work'
   pub told : r ≡ packed answer
 
 pub record JudgePacked (b e work : List ℕ) (r : ℕ) (work' : List ℕ) : Type 0 where

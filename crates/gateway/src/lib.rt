@@ -1,8 +1,7 @@
 // The calls for a caller in C: each answers one number, the value or a refusal's number and place (specs/Packed).
 ghost use Rattle.std.specs.Prelude.{◌≡◌, ◌+◌, ◌*◌, ◌%◌};
-ghost use Rattle.rules.specs.LogBlock.{plain, stamped};
 ghost use Rattle.rules.specs.Calls.{reading, checking};
-ghost use Rattle.gateway.specs.Packed.{packed, packed_verdict, AddPacked, MinePacked, GapsPacked, JudgePacked};
+ghost use Rattle.gateway.specs.Packed.{packed, packed_verdict, AddPacked, MinePacked, JudgePacked};
 
 use rules::{Answer, Verdict};
 
@@ -34,57 +33,25 @@ fn pack_verdict(verdict: Verdict) -> u64
 // Reading the record at a place of a log block: the place of the next. The record's codes are the bytes from at + 1 up to it.
 #[unsafe(no_mangle)]
 pub extern "C" fn arrabolzu_read(block: &[u8], at: usize) -> u64
-    ensures { result ≡ packed (reading plain block.now at) }
+    ensures { result ≡ packed (reading 1 block.now at) }
 {
     pack(log_records::read(block, at))
-}
-
-// The same of a stamped block.
-#[unsafe(no_mangle)]
-pub extern "C" fn arrabolzu_read_stamped(block: &[u8], at: usize) -> u64
-    ensures { result ≡ packed (reading stamped block.now at) }
-{
-    pack(log_records::read_stamped(block, at))
 }
 
 // Adding an episode to a log block: the new count.
 #[unsafe(no_mangle)]
 pub extern "C" fn arrabolzu_add(block: &mut [u8], episode: &[u8]) -> u64
-    ensures { AddPacked plain block.old episode.now result block.new }
+    ensures { AddPacked block.old episode.now result block.new }
 {
     pack(log_adding::add(block, episode))
-}
-
-// The same of a stamped block and an episode of codes and ticks.
-#[unsafe(no_mangle)]
-pub extern "C" fn arrabolzu_add_stamped(block: &mut [u8], episode: &[u8]) -> u64
-    ensures { AddPacked stamped block.old episode.now result block.new }
-{
-    pack(log_adding::add_stamped(block, episode))
 }
 
 // Mining a log: the number of nodes, and the tree in the first 512 bytes of `out`.
 #[unsafe(no_mangle)]
 pub extern "C" fn arrabolzu_mine(log: &[u8], out: &mut [u8], work: &mut [u8]) -> u64
-    ensures { MinePacked plain log.now out.old work.old result out.new work.new }
+    ensures { MinePacked log.now out.old work.old result out.new work.new }
 {
     pack(mine_call::mine(log, out, work))
-}
-
-// The same of a stamped log.
-#[unsafe(no_mangle)]
-pub extern "C" fn arrabolzu_mine_stamped(log: &[u8], out: &mut [u8], work: &mut [u8]) -> u64
-    ensures { MinePacked stamped log.now out.old work.old result out.new work.new }
-{
-    pack(mine_call::mine_stamped(log, out, work))
-}
-
-// The gaps of a stamped log: how many pairs occur, and the report in the first 1,024 numbers of `gaps`.
-#[unsafe(no_mangle)]
-pub extern "C" fn arrabolzu_gaps(log: &[u8], gaps: &mut [u32]) -> u64
-    ensures { GapsPacked log.now gaps.old result gaps.new }
-{
-    pack(gap_report::gaps(log, gaps))
 }
 
 // Checking a tree block: the number of nodes.

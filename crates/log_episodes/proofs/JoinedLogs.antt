@@ -13,7 +13,7 @@ use Rattle.rules.specs.Heartbeats.{without_heartbeats}
 use Rattle.rules.specs.Mining.{graph}
 use Rattle.rules.specs.Union.{union}
 use Rattle.rules.specs.Refusals.{Given}
-use Rattle.rules.specs.LogBlock.{blocks_at, block_episodes, episodes_from, log_episodes, log_events, log_sized, read_from, read_log}
+use Rattle.rules.specs.LogBlock.{blocks_at, block_episodes, episodes_from, log_episodes, log_events, log_sized}
 use Rattle.rules.specs.Calls.{code_count, top_code, log_sound, log_reading}
 use Rattle.rules.specs.Filling.{block_at}
 use Rattle.rules.specs.declared.Answer.TheVariants.{Gives}
@@ -39,7 +39,7 @@ module _ (a b : List ℕ) (p : ℕ) (whole : length a ≡ p * 512) where
 
   module _ (w : ℕ) where
     back_episodes : (n i : ℕ) → episodes_from w n (a ++ b) ((p + i) * 512) ≡ episodes_from w n b (i * 512)
-    unfolding read_from
+    unfolding episodes_from
     back_episodes zero i = refl
     back_episodes (suc n) i =
         let s : suc (p + i) ≡ p + suc i = omega arith in
@@ -50,7 +50,7 @@ module _ (a b : List ℕ) (p : ℕ) (whole : length a ≡ p * 512) where
 
     -- THEOREM: its episodes are those of one and then those of the other
     pub joined_episodes : (q : ℕ) → length b ≡ q * 512 → log_episodes w (a ++ b) ≡ log_episodes w a ++ log_episodes w b
-    unfolding read_log
+    unfolding log_episodes
     joined_episodes q whole' =
         let long = length-append a b in
         let n : length (a ++ b) / 512 ≡ q + p = omega arith in

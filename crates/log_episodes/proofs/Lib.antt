@@ -1,4 +1,3 @@
 pub mod EpisodeLaws
-pub mod ReadLaws
 pub mod BlockWise
 pub mod JoinedLogs

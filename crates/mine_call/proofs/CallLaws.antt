@@ -1,11 +1,11 @@
 -- The call: its refusals in their order, and what an accepted one leaves.
 use mathlib.Core.Path.{◌≡◌, sym, ◌∙◌, ap, subst}
-use mathlib.Core.List.{List, ◌++◌}
+use mathlib.Core.List.{List, ◌++◌, append-nil}
 use mathlib.Core.Bool.{Bool, true, false, ◌&&◌}
 use Prim.Native.Nat.{ℕ, zero, suc, ◌+◌, ◌-◌, ◌≤◌, ◌<◌}
 use native.Mathlib.Nat.{zero-add}
 use native.Mathlib.Omega.{arith}
-use lib.ListN.{length, drop}
+use lib.ListN.{length, drop, drop_of_length-le}
 use borrow.Author.Tests.{lt-leb, le-leb}
 use lib.Dec.{ltb}
 use Rattle.rules.specs.Words.{Has, each, mem, zeros}
@@ -33,45 +33,45 @@ use Rattle.mine_nodes.specs.Ready.{Ready}
 
 -- ---- the refusals, by the tests that lead to each
 
-module _ (w : ℕ) (log out work : List ℕ) where
+module _ (log out work : List ℕ) where
   module _ (t : Bool) (call : t ≡ log_sized log) where
-    pub mining_length : t ≡ false → mining w log out work ≡ Refused 1 0
+    pub mining_length : t ≡ false → mining 1 log out work ≡ Refused 1 0
     unfolding mining
     mining_length h = simp (sym call ∙ h)
 
     module _ (whole : t ≡ true) where
-      pub mining_out : length out < 512 → mining w log out work ≡ Refused 2 0
+      pub mining_out : length out < 512 → mining 1 log out work ≡ Refused 2 0
       unfolding mining
       mining_out h = simp (sym call ∙ whole, lt-leb _ _ h)
 
       module _ (o : 512 ≤ length out) where
-        pub mining_work : length work < 16384 → mining w log out work ≡ Refused 3 0
+        pub mining_work : length work < 16384 → mining 1 log out work ≡ Refused 3 0
         unfolding mining
         mining_work h = simp (sym call ∙ whole, le-leb _ _ o, lt-leb _ _ h)
 
-        pub mining_log : 16384 ≤ length work → mining w log out work ≡ log_sound w log
+        pub mining_log : 16384 ≤ length work → mining 1 log out work ≡ log_sound 1 log
         unfolding mining
         mining_log h = simp (sym call ∙ whole, le-leb _ _ o, le-leb _ _ h)
 
   -- a refusal writes nothing
-  pub refused_says : (number place : ℕ) → mining w log out work ≡ Refused number place → MineSays w log out work (Refused number place) out work
+  pub refused_says : (number place : ℕ) → mining 1 log out work ≡ Refused number place → MineSays 1 log out work (Refused number place) out work
   refused_says number place e =
       record {
-        answer = sym (ap (λ (a : Answer). told a (size (tree_of w log))) e);
-        block = sym (ap (λ (a : Answer). after a (tree_block (tree_of w log) ++ drop 512 out) out) e);
+        answer = sym (ap (λ (a : Answer). told a (size (tree_of 1 log))) e);
+        block = sym (ap (λ (a : Answer). after a (tree_block (tree_of 1 log) ++ drop 512 out) out) e);
         memory = sym (ap (λ (a : Answer). after a (cleared 16384 work) work) e);
       }
 
   -- the log's own refusal is handed on
-  pub handed_says : (r : Answer) → mining w log out work ≡ log_sound w log → r ≡ log_sound w log → (number place : ℕ) → r ≡ Refused number place → MineSays w log out work r out work
+  pub handed_says : (r : Answer) → mining 1 log out work ≡ log_sound 1 log → r ≡ log_sound 1 log → (number place : ℕ) → r ≡ Refused number place → MineSays 1 log out work r out work
   handed_says r m call number place e = rw e (refused_says number place (m ∙ sym call ∙ e))
 
-  pub gives_says : (end : ℕ) → mining w log out work ≡ Gives end → (n : ℕ) → n ≡ size (tree_of w log) → (out' work' : List ℕ) → out' ≡ tree_block (tree_of w log) ++ drop 512 out → work' ≡ cleared 16384 work →
-      MineSays w log out work (Gives n) out' work'
+  pub gives_says : (end : ℕ) → mining 1 log out work ≡ Gives end → (n : ℕ) → n ≡ size (tree_of 1 log) → (out' work' : List ℕ) → out' ≡ tree_block (tree_of 1 log) ++ drop 512 out → work' ≡ cleared 16384 work →
+      MineSays 1 log out work (Gives n) out' work'
   gives_says end e n f out' work' g h =
       record {
-        answer = ap Gives f ∙ sym (ap (λ (a : Answer). told a (size (tree_of w log))) e);
-        block = g ∙ sym (ap (λ (a : Answer). after a (tree_block (tree_of w log) ++ drop 512 out) out) e);
+        answer = ap Gives f ∙ sym (ap (λ (a : Answer). told a (size (tree_of 1 log))) e);
+        block = g ∙ sym (ap (λ (a : Answer). after a (tree_block (tree_of 1 log) ++ drop 512 out) out) e);
         memory = h ∙ sym (ap (λ (a : Answer). after a (cleared 16384 work) work) e);
       }
 
@@ -112,6 +112,9 @@ module _ (l : Log) (small : Below code_count l) (v : View) (sees : sight v ≡ r
       }
 
 -- ---- the block
+
+pub clear_whole : (n : ℕ) (b : List ℕ) → length b ≡ n → zeros n ++ drop n b ≡ zeros n
+clear_whole n b h = ap (λ (z : List ℕ). zeros n ++ z) (drop_of_length-le b {i = n} (omega arith)) ∙ append-nil (zeros n)
 
 drop_zeros : (k n : ℕ) → drop k (zeros n) ≡ zeros (n - k)
 unfolding zeros

@@ -1,3 +1,4 @@
+pub mod ClearLaws
 pub mod CallLaws
 pub mod Written
 pub mod Joined

@@ -5,7 +5,6 @@ ghost use Rattle.rules.specs.Heartbeats.{without_heartbeats};
 ghost use Rattle.rules.specs.Trees.{size};
 ghost use Rattle.rules.specs.Mining.{mined};
 ghost use Rattle.rules.specs.Refusals.{Given};
-ghost use Rattle.rules.specs.LogBlock.{plain, stamped};
 ghost use Rattle.rules.specs.TreeBlock.{tree_block};
 ghost use Rattle.rules.specs.Calls.{log_sound, tree_of, MineSays, code_count};
 ghost use Rattle.mine_places.specs.Places.{episodes_of, Listed};
@@ -14,7 +13,7 @@ ghost use Rattle.mine_views.specs.Sublogs.{sight, root_sight};
 ghost use Rattle.mine_root.specs.Widened.{quietly};
 
 use mine_views::View;
-use rules::{Answer, HEARTBEAT, MINE_WORK, PLAIN, STAMPED, TREE_SIZE};
+use rules::{Answer, HEARTBEAT, MINE_WORK, TREE_SIZE};
 
 // The first n bytes become zero.
 fn clear(bytes: &mut [u8], n: usize)
@@ -41,34 +40,33 @@ fn mine_tree(log: &[u8], places: &[u8], w: usize, tree: &mut [u8], met: View) ->
 }
 
 // Lists the distinct episodes of a sound log once more, by their events alone, where the list of n places has heartbeats.
-fn list_again(log: &[u8], work: &mut [u8], n: usize, w: usize, beats: bool) -> usize
-    requires { (1 ≤ w) × (w ≤ 3) × (length log.now ≤ 8192) × (length work.old ≡ 16384) × Given (log_sound w log.now) × Lists w log.now n work.old }
-    ensures { (length work.new ≡ 16384) × Lists w log.now result work.new }
+fn list_again(log: &[u8], work: &mut [u8], n: usize, beats: bool) -> usize
+    requires { (length log.now ≤ 8192) × (length work.old ≡ 16384) × Given (log_sound 1 log.now) × Lists 1 log.now n work.old }
+    ensures { (length work.new ≡ 16384) × Lists 1 log.now result work.new }
 {
     if beats {
-        return mine_gather::gather(log, work, w, true);
+        return mine_gather::gather(log, work, 1, true);
     }
     n
 }
 
 // Writes the block of a sound log's tree, and answers the number of nodes: each distinct episode is listed, and the list is walked. The work is zero afterwards.
-fn mine_log(log: &[u8], tree: &mut [u8], work: &mut [u8], w: usize) -> usize
-    requires { (1 ≤ w) × (w ≤ 3) × (length tree.old ≡ 512) × (length work.old ≡ 16384) × (length log.now ≤ 8192) × Given (log_sound w log.now) }
-    ensures { (result ≡ size (tree_of w log.now)) × (tree.new ≡ tree_block (tree_of w log.now)) × (work.new ≡ zeros 16384) }
+fn mine_log(log: &[u8], tree: &mut [u8], work: &mut [u8]) -> usize
+    requires { (length tree.old ≡ 512) × (length work.old ≡ 16384) × (length log.now ≤ 8192) × Given (log_sound 1 log.now) }
+    ensures { (result ≡ size (tree_of 1 log.now)) × (tree.new ≡ tree_block (tree_of 1 log.now)) × (work.new ≡ zeros 16384) }
 {
-    let stored = mine_gather::gather(log, work, w, false);
-    let met = mine_root::root_of(log, &work[..2 * stored], w);
+    let stored = mine_gather::gather(log, work, 1, false);
+    let met = mine_root::root_of(log, &work[..2 * stored], 1);
     let codes = met.keep;
-    let n = list_again(log, work, stored, w, codes.has_code(HEARTBEAT));
-    let nodes = mine_tree(log, &work[..2 * n], w, tree, met);
+    let n = list_again(log, work, stored, codes.has_code(HEARTBEAT));
+    let nodes = mine_tree(log, &work[..2 * n], 1, tree, met);
     clear(work, MINE_WORK);
     nodes
 }
 
-// Mining a log whose events have w bytes.
-fn mine_events(log: &[u8], out: &mut [u8], work: &mut [u8], w: usize) -> Answer
-    requires { (1 ≤ w) × (w ≤ 3) }
-    ensures { MineSays w log.now out.old work.old result out.new work.new }
+// Mining: writes the tree of a log as the first 512 bytes of a block and answers its number of nodes, or refuses and writes nothing.
+pub fn mine(log: &[u8], out: &mut [u8], work: &mut [u8]) -> Answer
+    ensures { MineSays 1 log.now out.old work.old result out.new work.new }
 {
     if !log_whole::sized(log) {
         return Answer::Refused {
@@ -88,24 +86,10 @@ fn mine_events(log: &[u8], out: &mut [u8], work: &mut [u8], w: usize) -> Answer
             place: 0,
         };
     }
-    let r = log_whole::sound_log(log, w);
+    let r = log_whole::sound_log(log, 1);
     let Answer::Gives(_) = r else {
         return r;
     };
-    let nodes = mine_log(log, &mut out[0..TREE_SIZE], &mut work[0..MINE_WORK], w);
+    let nodes = mine_log(log, &mut out[0..TREE_SIZE], &mut work[0..MINE_WORK]);
     Answer::Gives(nodes)
-}
-
-// Mining: writes the tree of a log as the first 512 bytes of a block and answers its number of nodes, or refuses and writes nothing.
-pub fn mine(log: &[u8], out: &mut [u8], work: &mut [u8]) -> Answer
-    ensures { MineSays plain log.now out.old work.old result out.new work.new }
-{
-    mine_events(log, out, work, PLAIN)
-}
-
-// The same of a stamped log: ticks are passed over.
-pub fn mine_stamped(log: &[u8], out: &mut [u8], work: &mut [u8]) -> Answer
-    ensures { MineSays stamped log.now out.old work.old result out.new work.new }
-{
-    mine_events(log, out, work, STAMPED)
 }

@@ -17,8 +17,6 @@ pub mod Occurring
 pub mod HeartbeatLaws
 pub mod Components
 pub mod Peeling
-pub mod ClearLaws
-pub mod GapLaws
 pub mod GraphLaws
 pub mod Interleaving
 pub mod Joining

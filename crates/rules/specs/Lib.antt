@@ -8,7 +8,6 @@ pub mod Refusals
 pub mod LogBlock
 pub mod TreeBlock
 pub mod Holds
-pub mod Gaps
 pub mod Calls
 pub mod Listing
 pub mod EpisodeText

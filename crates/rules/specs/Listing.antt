@@ -1,8 +1,7 @@
 -- What the programs print, as ASCII bytes.
-use Rattle.std.specs.Prelude.{List, [], ◌∷◌, ◌++◌, Bool, ℕ, zero, suc, ◌+◌, ◌-◌, ◌/◌, ◌%◌, ltb, eqb}
+use Rattle.std.specs.Prelude.{List, [], ◌∷◌, ◌++◌, Bool, ℕ, zero, suc, ◌+◌, ◌/◌, ◌%◌, ltb, eqb}
 use Rattle.rules.specs.Words.{pick}
 use Rattle.rules.specs.Trees.{size}
-use Rattle.rules.specs.Gaps.{pair_count}
 use Rattle.rules.specs.TreeBlock.{kind_at, argument_at, size_at}
 
 -- n in decimal, of at most d digits, without leading zeros
@@ -50,16 +49,3 @@ verdict_line n fits =
 unfoldable pub verdict_lines : ℕ → List Bool → List ℕ
 verdict_lines n [] = []
 verdict_lines n (f ∷ fs) = verdict_line n f ++ verdict_lines (n + 1) fs
-
--- first code, second code, gap
-unfoldable pub gap_line : ℕ → ℕ → ℕ → List ℕ
-gap_line first second gap = decimal 2 first ++ (32 ∷ []) ++ decimal 2 second ++ (32 ∷ []) ++ decimal 5 gap ++ (10 ∷ [])
-
--- a line for each pair that occurs, by first and then second code, from place i of a report of m codes on
-unfoldable pub gap_lines : ℕ → ℕ → List ℕ → List ℕ
-gap_lines m i [] = []
-gap_lines m i (g ∷ gs) = pick (eqb g 0) [] (gap_line (i / m) (i % m) (g - 1)) ++ gap_lines m (i + 1) gs
-
--- "pairs ", how many occur, and their lines
-unfoldable pub gap_listing : ℕ → List ℕ → List ℕ
-gap_listing m report = (112 ∷ 97 ∷ 105 ∷ 114 ∷ 115 ∷ 32 ∷ []) ++ decimal 4 (pair_count report) ++ (10 ∷ []) ++ gap_lines m 0 report

@@ -1,12 +1,12 @@
--- What the programs that mine, judge and report gaps print for the whole of their input.
+-- What the two programs print for the whole of their input.
 use Rattle.std.specs.Prelude.{◌≡◌, List, [], ◌∷◌, Bool, true, false, ℕ, take, drop}
 use Rattle.rules.specs.Heartbeats.{without_heartbeats}
 use Rattle.rules.specs.Trees.{Tree, size, In}
 use Rattle.rules.specs.Refusals.{and_then}
-use Rattle.rules.specs.LogBlock.{stamped, log_episodes}
+use Rattle.rules.specs.LogBlock.{log_episodes}
 use Rattle.rules.specs.TreeBlock.{tree_block}
-use Rattle.rules.specs.Calls.{code_count, log_reading, tree_of, report_of, checking}
-use Rattle.rules.specs.Listing.{listing, gap_listing, refusal_line, verdict_lines}
+use Rattle.rules.specs.Calls.{log_reading, tree_of, checking}
+use Rattle.rules.specs.Listing.{listing, refusal_line, verdict_lines}
 use Rattle.rules.specs.declared.Answer.{Answer}
 use Rattle.rules.specs.declared.Answer.TheVariants.{Gives, Refused}
 
@@ -19,16 +19,6 @@ mined_by (Refused number place) log = refusal_line number place
 -- the listing of the log's tree, or the refusal's line
 unfoldable pub mined_text : List ℕ → List ℕ
 mined_text log = mined_by (log_reading 1 log) log
-
--- ---- gaps: the input is a stamped log
-
-abbrev pub gaps_by : Answer → List ℕ → List ℕ
-gaps_by (Gives _) log = gap_listing code_count (report_of log)
-gaps_by (Refused number place) log = refusal_line number place
-
--- the pairs of the log with their largest gaps, or the refusal's line
-unfoldable pub gaps_text : List ℕ → List ℕ
-gaps_text log = gaps_by (log_reading stamped log) log
 
 -- ---- judging: the input is a tree block and then a log
 

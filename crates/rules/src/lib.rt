@@ -52,11 +52,6 @@ pub const EVENT_COUNT: usize = 63;
 
 pub const PLACE_COUNT: usize = 64;
 
-// The bytes of an event in the two editions of a log block: its code, or its code and a tick.
-pub const PLAIN: usize = 1;
-
-pub const STAMPED: usize = 3;
-
 // The bytes of a block of a log, and the place of its check.
 pub const BLOCK_SIZE: usize = 512;
 
@@ -76,6 +71,3 @@ pub const ENTRY_COUNT: usize = 127;
 pub const MINE_WORK: usize = 16384;
 
 pub const JUDGE_WORK: usize = 8128;
-
-// The numbers of the report of gaps, one for each pair of codes.
-pub const GAP_COUNT: usize = 1024;

@@ -1,18 +1,16 @@
-//! Runs the mining, the judging and the report program on many inputs and compares what they print with what they should.
+//! Runs the mining and the judging program on many inputs and compares what they print with what they should.
 //!
-//!     programs MINING JUDGING GAPS      each a command, its words parted by spaces
+//!     programs MINING JUDGING      each a command, its words parted by spaces
 //!
-//! `reference mine`, `reference judge` and `reference gaps` are three such commands. The last line counts the inputs; the exit status is 1 if one failed.
+//! `reference mine` and `reference judge` are two such commands. The last line counts the inputs; the exit status is 1 if one failed.
 
 use independent::block::BLOCK;
-use independent::edition::{Edition, First, Second};
 use independent::generate::damage::{damage_log_block, damage_tree, TreeDamage, LOG_DAMAGES, TREE_DAMAGES};
 use independent::generate::heartbeats::{alone, put_some, PLACES};
-use independent::generate::logs::{any_episode, any_episodes, full_log, full_log_of, packed_log, tree_episodes};
+use independent::generate::logs::{any_episode, any_episodes, full_log, packed_log, tree_episodes};
 use independent::generate::random::Random;
-use independent::generate::stamps::{stamped_log, with_any_ticks, with_rising_ticks};
 use independent::generate::trees::{short_episode, some_codes, some_tree};
-use independent::listing::{gaps_output, judging_output, mining_output};
+use independent::listing::{judging_output, mining_output};
 use independent::log::{episodes_of, EVENT_CODES};
 use independent::tree::Tree;
 use std::io::Write;
@@ -20,15 +18,14 @@ use std::process::{Command, ExitCode, Stdio};
 
 fn main() -> ExitCode {
     let commands: Vec<String> = std::env::args().skip(1).collect();
-    let [mining, judging, gaps] = &commands[..] else {
-        eprintln!("usage: programs MINING JUDGING GAPS");
+    let [mining, judging] = &commands[..] else {
+        eprintln!("usage: programs MINING JUDGING");
         return ExitCode::from(2);
     };
     let mut random = Random::seeded(101);
     let mined = compared("mining", mining, mining_inputs(&mut random), mining_output);
     let judged = compared("judging", judging, judging_inputs(&mut random), judging_output);
-    let reported = compared("gaps", gaps, gaps_inputs(&mut random), gaps_output);
-    let (passed, failed) = (mined.0 + judged.0 + reported.0, mined.1 + judged.1 + reported.1);
+    let (passed, failed) = (mined.0 + judged.0, mined.1 + judged.1);
     println!("{passed} passed, {failed} failed");
     ExitCode::from((failed > 0) as u8)
 }
@@ -83,19 +80,13 @@ fn beating_log(random: &mut Random, tree: &Tree) -> Vec<u8> {
     packed_log(episodes)
 }
 
-fn damaged_log(random: &mut Random, edition: Edition) -> Vec<u8> {
+fn damaged_log(random: &mut Random) -> Vec<u8> {
     let longest = random.between(1, 9);
-    let mut log = full_log_of(edition, random, 3, |random| {
-        let codes = any_episode(random, 32, longest);
-        match edition {
-            First => codes,
-            Second => with_any_ticks(random, &codes),
-        }
-    });
+    let mut log = full_log(random, 3, |random| any_episode(random, 32, longest));
     for _ in 0..random.between(1, 2) {
         let number = random.below(3);
         let damage = *random.pick(&LOG_DAMAGES);
-        damage_log_block(random, edition, &mut log[number * BLOCK..(number + 1) * BLOCK], damage);
+        damage_log_block(random, &mut log[number * BLOCK..(number + 1) * BLOCK], damage);
     }
     log
 }
@@ -105,7 +96,7 @@ fn mining_inputs(random: &mut Random) -> Vec<Vec<u8>> {
     for _ in 0..40 {
         inputs.push(some_log(random));
         inputs.push(packed_log(any_episodes(random, 4, 3, 4)));
-        inputs.push(damaged_log(random, First));
+        inputs.push(damaged_log(random));
     }
     for count in (1..=EVENT_CODES).step_by(6) {
         let codes = some_codes(random, count);
@@ -137,34 +128,11 @@ fn judging_inputs(random: &mut Random) -> Vec<Vec<u8>> {
         let mut beating = sound;
         damage_tree(random, &mut beating, TreeDamage::HeartbeatLeaf);
         inputs.push([&beating[..], &beating_log(random, &tree)].concat());
-        inputs.push([&sound[..], &damaged_log(random, First)].concat());
+        inputs.push([&sound[..], &damaged_log(random)].concat());
         let mut damaged = sound;
         let damage = *random.pick(&TREE_DAMAGES);
         damage_tree(random, &mut damaged, damage);
-        inputs.push([&damaged[..], &damaged_log(random, First)].concat());
-    }
-    inputs
-}
-
-fn gaps_inputs(random: &mut Random) -> Vec<Vec<u8>> {
-    let mut inputs: Vec<Vec<u8>> = LENGTHS.iter().map(|&length| vec![0; length]).collect();
-    for round in 0..40 {
-        let codes = some_codes(random, round % EVENT_CODES + 1);
-        let tree = some_tree(random, &codes);
-        let logs = [some_log(random), beating_log(random, &tree)];
-        inputs.extend(logs.iter().filter_map(|log| stamped_log(random, log)));
-        inputs.push(damaged_log(random, Second));
-    }
-    // Every pair, so that the output is as long as it can be.
-    let pairs = (0..EVENT_CODES as u8).flat_map(|first| (0..EVENT_CODES as u8).map(move |second| [first, second]));
-    let records: Vec<Vec<u8>> = pairs.map(|pair| with_any_ticks(random, &pair)).collect();
-    inputs.extend(Second.log_of(&records));
-    for _ in 0..4 {
-        let any = |random: &mut Random| any_episode(random, 32, 63);
-        inputs.push(full_log_of(Second, random, 16, |random| {
-            let codes = any(random);
-            with_rising_ticks(random, &codes, 40_000)
-        }));
+        inputs.push([&damaged[..], &damaged_log(random)].concat());
     }
     inputs
 }

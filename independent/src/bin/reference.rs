@@ -1,10 +1,9 @@
-//! The three programs as the plain variant has them.
+//! The two programs as the plain variant has them.
 //!
 //!     reference mine < LOG
 //!     reference judge < TREE-BLOCK-AND-LOG
-//!     reference gaps < STAMPED-LOG
 
-use independent::listing::{gaps_output, judging_output, mining_output};
+use independent::listing::{judging_output, mining_output};
 use std::io::{self, Read};
 use std::process;
 
@@ -12,9 +11,8 @@ fn main() {
     let output = match std::env::args().nth(1).as_deref() {
         Some("mine") => mining_output,
         Some("judge") => judging_output,
-        Some("gaps") => gaps_output,
         _ => {
-            eprintln!("usage: reference mine|judge|gaps");
+            eprintln!("usage: reference mine|judge");
             process::exit(2);
         }
     };

@@ -1,17 +1,15 @@
-//! Writes sample logs of a gateway with two lines, each with what the programs print for it.
+//! Writes sample logs of a gateway with two lines, each with what the two programs print for it.
 //!
 //!     samples FOLDER
 //!
 //! For each sample: NAME.log (the log), NAME.tree (the tree block), NAME.listing (what the mining program prints) and
-//! NAME.verdicts (what the judging program prints for that tree and that log). For each stamped sample: NAME.log and NAME.gaps
-//! (what the report program prints).
+//! NAME.verdicts (what the judging program prints for that tree and that log).
 
 use independent::block::BLOCK;
 use independent::calls::{mine_log, MINING_WORK};
-use independent::edition::{stamped, First, Second, Stamped};
 use independent::generate::heartbeats::put;
 use independent::generate::random::Random;
-use independent::listing::{gaps_output, judging_output, mining_output};
+use independent::listing::{judging_output, mining_output};
 use independent::log::{log_of, Episode, HEARTBEAT};
 use std::path::Path;
 use std::{env, fs, io, process};
@@ -51,17 +49,6 @@ const SAMPLES: [Sample; 8] = [
     ("restarts-without-end", "As before, but one restart may follow another.", restarts),
     ("cable-work", "Falls and returns in no order at all: a flower.", cable_work),
     ("quiet-evenings", "Nothing happened: empty episodes only.", || vec![vec![]; 3]),
-];
-
-type StampedSample = (&'static str, &'static str, fn() -> Vec<Vec<Stamped>>);
-
-const STAMPED_SAMPLES: [StampedSample; 2] = [
-    (
-        "stamped-switchover",
-        "Line A falls, B takes over, A returns; stamped, the counter goes round.",
-        stamped_switchover,
-    ),
-    ("stamped-heartbeats", "The same with a heartbeat between every two events: the same gaps.", stamped_heartbeats),
 ];
 
 /// Every order of two events before and two after the restart.
@@ -109,32 +96,10 @@ fn cable_work() -> Vec<Episode> {
     (0..40).map(|_| odd(&mut random)).chain([vec![]]).collect()
 }
 
-/// Each evening begins 20,000 ticks after the one before; a step takes longer from evening to evening.
-fn stamped_switchover() -> Vec<Vec<Stamped>> {
-    let evening = |(number, events): (u16, Episode)| {
-        let tick = |step: u16| (20_000 * number).wrapping_add(59_000).wrapping_add((900 + 200 * number) * step);
-        events.into_iter().zip(0..).map(|(code, step)| Stamped { code, tick: tick(step) }).collect()
-    };
-    (0..).zip(switchover()).map(evening).collect()
-}
-
-fn stamped_heartbeats() -> Vec<Vec<Stamped>> {
-    let beat = |event: &Stamped| Stamped { code: HEARTBEAT, tick: event.tick.wrapping_add(77) };
-    let with = |events: Vec<Stamped>| events.iter().flat_map(|event| [*event, beat(event)]).collect();
-    stamped_switchover().into_iter().map(with).collect()
-}
-
-fn write_stamped(folder: &Path, name: &str, episodes: Vec<Vec<Stamped>>) -> io::Result<()> {
-    let records: Vec<Vec<u8>> = episodes.iter().map(|events| stamped(events)).collect();
-    let log = Second.log_of(&records).expect("a sample is small");
-    fs::write(folder.join(format!("{name}.gaps")), gaps_output(&log))?;
-    fs::write(folder.join(format!("{name}.log")), log)
-}
-
 fn write_sample(folder: &Path, name: &str, episodes: Vec<Episode>) -> io::Result<()> {
     let log = log_of(&episodes).expect("a sample is small");
     let mut tree = [0; BLOCK];
-    mine_log(First, &log, &mut tree, &mut vec![0; MINING_WORK]).expect("a sample is sound");
+    mine_log(&log, &mut tree, &mut vec![0; MINING_WORK]).expect("a sample is sound");
     let write = |kind: &str, bytes: &[u8]| fs::write(folder.join(format!("{name}.{kind}")), bytes);
     write("log", &log)?;
     write("tree", &tree)?;
@@ -152,10 +117,6 @@ fn write_all(folder: &Path) -> io::Result<()> {
     for (name, meaning, episodes) in SAMPLES {
         about += &format!("{name}: {meaning}\n");
         write_sample(folder, name, episodes())?;
-    }
-    for (name, meaning, episodes) in STAMPED_SAMPLES {
-        about += &format!("{name}: {meaning}\n");
-        write_stamped(folder, name, episodes())?;
     }
     fs::write(folder.join("ABOUT"), about)
 }

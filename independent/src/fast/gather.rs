@@ -5,19 +5,18 @@ use crate::calls::MINING_WORK;
 use crate::log::HEARTBEAT;
 
 /// Where a record's length byte stands in the log, lowest byte first. None stands at 0.
-pub type Place = [u8; 2];
+type Place = [u8; 2];
 
 /// Behind the list, which 4,080 records at most can fill, there is room for a byte beside each place; then come the slots.
-pub const SLOTS_AT: usize = 12_288;
+const SLOTS_AT: usize = 12_288;
 pub const SLOTS: usize = 2_048;
 /// How many slots are looked at. A record that finds no room there is listed once more, which changes no tree.
-pub const LOOKS: usize = 32;
+const LOOKS: usize = 32;
 
 #[derive(Clone, Copy)]
 pub struct Episodes<'a> {
-    /// Where the places lead: the log itself, or the codes of a stamped one.
-    pub log: &'a [u8],
-    pub places: &'a [Place],
+    log: &'a [u8],
+    places: &'a [Place],
 }
 
 impl<'a> Episodes<'a> {
@@ -27,7 +26,7 @@ impl<'a> Episodes<'a> {
     }
 }
 
-pub fn codes_at(log: &[u8], place: Place) -> &[u8] {
+fn codes_at(log: &[u8], place: Place) -> &[u8] {
     let at = u16::from_le_bytes(place) as usize;
     &log[at + 1..at + 1 + log[at] as usize]
 }

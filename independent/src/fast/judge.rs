@@ -2,7 +2,7 @@
 //! codes than the node's own passed over, are in the node's language.
 
 use super::codes::{bit, Codes};
-use super::log::{check_episode, PLAIN};
+use super::log::check_episode;
 use super::tree::{check_block, entry};
 use crate::answer::{refuse, Answer};
 use crate::calls::JUDGING_WORK;
@@ -14,7 +14,7 @@ pub fn judge(tree: &[u8], episode: &[u8], work: &mut [u64]) -> Answer<usize> {
     let Ok(tree) = tree.try_into() else { return refuse(8, 0) };
     let Some(work) = work.get_mut(..JUDGING_WORK) else { return refuse(3, 0) };
     let nodes = check_block(tree)?;
-    check_episode::<PLAIN>(episode)?;
+    check_episode(episode)?;
     let mut room = [0; LONGEST_EPISODE];
     let episode = events_of(episode, &mut room);
     let rows = work.as_chunks_mut().0;

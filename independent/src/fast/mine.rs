@@ -3,21 +3,20 @@
 use super::codes::{each, Codes};
 use super::cuts::{first_cut, Cut, CHOICE, LOOP};
 use super::gather::{gather, Episodes};
-use super::log::{check_log, sum_of, PLAIN};
-use super::stamped::gather_stamped;
+use super::log::{check_log, sum_of};
 use super::view::{graph_of, parts_missed, root_of, View};
 use crate::answer::{refuse, Answer};
 use crate::calls::MINING_WORK;
 
-pub fn mine<const W: usize>(log: &[u8], out: &mut [u8], work: &mut [u8]) -> Answer<usize> {
+pub fn mine(log: &[u8], out: &mut [u8], work: &mut [u8]) -> Answer<usize> {
     if log.is_empty() || log.len() > 8192 || !log.len().is_multiple_of(512) {
         return refuse(1, 0);
     }
     let Some(out) = out.first_chunk_mut::<512>() else { return refuse(2, 0) };
     let Some(work) = work.first_chunk_mut::<MINING_WORK>() else { return refuse(3, 0) };
-    check_log::<W>(log)?;
+    check_log(log)?;
     out.fill(0);
-    let episodes = if W == PLAIN { gather(log, work) } else { gather_stamped(log, work) };
+    let episodes = gather(log, work);
     let mut miner = Miner { episodes, out, nodes: 0 };
     miner.grow(root_of(episodes));
     let nodes = miner.nodes;

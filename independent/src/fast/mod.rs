@@ -3,19 +3,16 @@
 
 mod codes;
 mod cuts;
-mod gaps;
 mod gather;
 mod judge;
 mod log;
 mod mine;
-mod stamped;
 mod tree;
 mod view;
 
 use crate::answer::packed;
 use crate::calls::Gateway;
 pub use gather::{number_of, SLOTS};
-use log::{PLAIN, STAMPED};
 
 pub struct Fast;
 
@@ -25,15 +22,15 @@ impl Gateway for Fast {
     }
 
     fn read(&self, block: &[u8], at: usize) -> u64 {
-        packed(log::read::<PLAIN>(block, at))
+        packed(log::read(block, at))
     }
 
     fn add(&self, block: &mut [u8], episode: &[u8]) -> u64 {
-        packed(log::add::<PLAIN>(block, episode))
+        packed(log::add(block, episode))
     }
 
     fn mine(&self, log: &[u8], out: &mut [u8], work: &mut [u8]) -> u64 {
-        packed(mine::mine::<PLAIN>(log, out, work))
+        packed(mine::mine(log, out, work))
     }
 
     fn check(&self, tree: &[u8]) -> u64 {
@@ -42,21 +39,5 @@ impl Gateway for Fast {
 
     fn judge(&self, tree: &[u8], episode: &[u8], work: &mut [u64]) -> u64 {
         packed(judge::judge(tree, episode, work))
-    }
-
-    fn read_stamped(&self, block: &[u8], at: usize) -> u64 {
-        packed(log::read::<STAMPED>(block, at))
-    }
-
-    fn add_stamped(&self, block: &mut [u8], episode: &[u8]) -> u64 {
-        packed(log::add::<STAMPED>(block, episode))
-    }
-
-    fn mine_stamped(&self, log: &[u8], out: &mut [u8], work: &mut [u8]) -> u64 {
-        packed(mine::mine::<STAMPED>(log, out, work))
-    }
-
-    fn gaps(&self, log: &[u8], gaps: &mut [u32]) -> u64 {
-        packed(gaps::report(log, gaps))
     }
 }

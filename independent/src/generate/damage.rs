@@ -2,8 +2,7 @@
 
 use super::random::Random;
 use crate::block::{write_check, BLOCK, CHECK_AT};
-use crate::edition::Edition;
-use crate::log::{HEARTBEAT, LONGEST_EPISODE};
+use crate::log::{record_at, HEARTBEAT};
 use crate::tree::ENTRIES;
 
 #[derive(Clone, Copy, Debug, PartialEq, Eq)]
@@ -31,23 +30,22 @@ pub const LOG_DAMAGES: [LogDamage; 7] = [
     LogDamage::NoRecord,
 ];
 
-/// The places of the length bytes and of the codes, and the place where the records end.
-fn places_of(edition: Edition, block: &[u8]) -> (Vec<usize>, Vec<usize>, usize) {
-    let (mut lengths, mut codes, mut end) = (vec![], vec![], 1);
+/// The places of the length bytes, and behind them the place where the records end.
+fn length_bytes(block: &[u8]) -> Vec<usize> {
+    let mut places = vec![1];
     for _ in 0..block[0] {
-        let Ok(events) = edition.record_at(block, end) else { break };
-        lengths.push(end);
-        end = events.end;
-        codes.extend(events.step_by(edition.width()));
+        match record_at(block, places[places.len() - 1]) {
+            Ok(codes) => places.push(codes.end),
+            Err(_) => break,
+        }
     }
-    (lengths, codes, end)
+    places
 }
 
 /// Damages a block and gives it the right check again, unless the check is what is damaged.
-pub fn damage_log_block(random: &mut Random, edition: Edition, block: &mut [u8], damage: LogDamage) {
-    let (places, codes, end) = places_of(edition, block);
-    // The smallest number of events that a record has no room for.
-    let too_many = |at: usize| (CHECK_AT - 1 - at) / edition.width() + 1;
+pub fn damage_log_block(random: &mut Random, block: &mut [u8], damage: LogDamage) {
+    let mut places = length_bytes(block);
+    let end = places.pop().unwrap_or(1);
     match damage {
         LogDamage::Check => {
             block[random.between(CHECK_AT, BLOCK - 1)] ^= 1 << random.below(8);
@@ -55,13 +53,14 @@ pub fn damage_log_block(random: &mut Random, edition: Edition, block: &mut [u8],
         }
         LogDamage::LongRecord if !places.is_empty() => block[*random.pick(&places)] = random.byte_from(64),
         LogDamage::PastTheEnd => {
-            if let Some(&at) = places.iter().rfind(|&&at| too_many(at) <= LONGEST_EPISODE) {
-                block[at] = random.between(too_many(at), LONGEST_EPISODE) as u8;
+            if let Some(&at) = places.iter().rfind(|&&at| at + 64 > CHECK_AT) {
+                block[at] = random.between(CHECK_AT - at, 63) as u8;
             }
         }
         LogDamage::NoLength => block[0] = 255,
         LogDamage::Padding if end < CHECK_AT => block[random.between(end, CHECK_AT - 1)] = random.byte_from(1),
         LogDamage::Code => {
+            let codes = (1..end).filter(|place| !places.contains(place)).collect::<Vec<_>>();
             if !codes.is_empty() {
                 block[*random.pick(&codes)] = random.byte_from(32);
             }

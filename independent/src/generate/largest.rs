@@ -1,6 +1,5 @@
-//! The largest inputs of several shapes: full logs, with all 31 codes of events or with many records, some with heartbeats,
-//! stamped ones and beside each the log of its codes; 63-event episodes on 127-node trees; and blocks that are no trees, nested
-//! as deep as they can be.
+//! The largest inputs of several shapes: full logs, with all 31 codes of events or with many records, some with heartbeats, and
+//! 63-event episodes on 127-node trees; and blocks that are no trees, nested as deep as they can be.
 
 use super::distinct::{
     crowd, every_episode, first_fit, grouped_episodes, log_without_repeats, most_episodes, repeating_log,
@@ -8,27 +7,22 @@ use super::distinct::{
 use super::heartbeats::{put_between, put_one};
 use super::logs::largest_log;
 use super::random::Random;
-use super::stamps::{log_of_codes, with_rising_ticks};
 use super::trees::short_episode;
 use crate::block::{write_check, BLOCK};
-use crate::edition::{Edition, First, Second};
 use crate::fast::number_of;
-use crate::log::{Episode, EVENT_CODES, LONGEST_EPISODE, MOST_BLOCKS};
+use crate::log::{Episode, EVENT_CODES, LONGEST_EPISODE};
 use crate::tree::{Operator, Tree};
 use Operator::{Choice, Loop, Parallel, Sequence};
 
 pub enum Task {
     Mine { log: Vec<u8> },
     Judge { block: [u8; BLOCK], episode: Episode },
-    MineStamped { log: Vec<u8> },
-    Report { log: Vec<u8> },
-    Add { edition: Edition, block: Vec<u8>, episode: Vec<u8> },
 }
 
 type Shape = (&'static str, fn() -> Task);
 
 /// The names of all shapes and how to make each.
-pub const SHAPES: [Shape; 54] = [
+pub const SHAPES: [Shape; 30] = [
     ("mine-balanced", || logs_of(balanced(Sequence, Choice, leaves()), Events::Doubled, 8)),
     ("mine-balanced-parallel", || logs_of(balanced(Choice, Parallel, leaves()), Events::Doubled, 8)),
     ("mine-sequence-loop-comb", || logs_of(sequence_loop_comb(), Events::Doubled, 10)),
@@ -49,30 +43,6 @@ pub const SHAPES: [Shape; 54] = [
     ("mine-crowded", || mine(first_fit(&crowd(every_episode(EVENT_CODES as u8, 3), 0, number_of)[..2_016]))),
     ("mine-heartbeats-between", || logs_with(balanced(Sequence, Choice, leaves()), |_, events| put_between(&events))),
     ("mine-few-heartbeats", || logs_with(balanced(Sequence, Choice, leaves()), some_heartbeat)),
-    ("mine-stamped-balanced", || mine_stamped("mine-balanced")),
-    ("mine-codes-balanced", || mine_codes("mine-balanced")),
-    ("mine-stamped-choice-sequence-comb", || mine_stamped("mine-choice-sequence-comb")),
-    ("mine-codes-choice-sequence-comb", || mine_codes("mine-choice-sequence-comb")),
-    ("mine-stamped-sequence-loop-comb", || mine_stamped("mine-sequence-loop-comb")),
-    ("mine-codes-sequence-loop-comb", || mine_codes("mine-sequence-loop-comb")),
-    ("mine-stamped-flower-of-pairs", || mine_stamped("mine-flower-of-pairs")),
-    ("mine-codes-flower-of-pairs", || mine_codes("mine-flower-of-pairs")),
-    ("mine-stamped-parallel", || mine_stamped("mine-parallel")),
-    ("mine-codes-parallel", || mine_codes("mine-parallel")),
-    ("mine-stamped-one-event-episodes", || mine_stamped("mine-one-event-episodes")),
-    ("mine-codes-one-event-episodes", || mine_codes("mine-one-event-episodes")),
-    ("mine-stamped-forty-distinct", || mine_stamped("mine-forty-distinct")),
-    ("mine-codes-forty-distinct", || mine_codes("mine-forty-distinct")),
-    ("mine-stamped-empty-records", || mine_stamped("mine-empty-records")),
-    ("mine-codes-empty-records", || mine_codes("mine-empty-records")),
-    ("mine-stamped-heartbeats-between", || mine_stamped("mine-heartbeats-between")),
-    ("mine-codes-heartbeats-between", || mine_codes("mine-heartbeats-between")),
-    ("gaps-balanced", || report("mine-balanced")),
-    ("gaps-flower", || report("mine-flower")),
-    ("gaps-one-event-episodes", || report("mine-one-event-episodes")),
-    ("gaps-heartbeats-between", || report("mine-heartbeats-between")),
-    ("add-stamped", || add(Second)),
-    ("add-codes", || add(First)),
     ("judge-balanced", || judge_fit(balanced(Sequence, Choice, blossoms()))),
     ("judge-balanced-parallel", || judge_fit(balanced(Sequence, Parallel, blossoms()))),
     ("judge-sequence-comb", || judge_fit(comb(Sequence))),
@@ -99,45 +69,6 @@ pub fn task(name: &str) -> Option<Task> {
 
 fn mine(log: Vec<u8>) -> Task {
     Task::Mine { log }
-}
-
-/// The records of another shape, stamped, each in the first of 16 blocks that has room for it, until none has.
-fn stamped_log(shape: &str) -> Vec<u8> {
-    let Some(Task::Mine { log: codes }) = task(shape) else { panic!("{shape} is mined") };
-    let mut random = Random::seeded(67);
-    let mut log = vec![0; MOST_BLOCKS * BLOCK];
-    for record in First.records_of_log(&codes).expect("a sound log") {
-        let episode = with_rising_ticks(&mut random, record, 3_000);
-        log.chunks_mut(BLOCK).find_map(|block| Second.add(block, &episode).ok());
-    }
-    log
-}
-
-fn mine_stamped(shape: &str) -> Task {
-    Task::MineStamped { log: stamped_log(shape) }
-}
-
-fn mine_codes(shape: &str) -> Task {
-    mine(log_of_codes(&stamped_log(shape)).expect("codes take less room"))
-}
-
-fn report(shape: &str) -> Task {
-    Task::Report { log: stamped_log(shape) }
-}
-
-/// Forty-five records of two events, and room for thirty events twice.
-fn add(edition: Edition) -> Task {
-    let mut random = Random::seeded(68);
-    let mut episode = |events: usize| {
-        let codes: Episode = (0..events).map(|number| (number % EVENT_CODES) as u8).collect();
-        match edition {
-            First => codes,
-            Second => with_rising_ticks(&mut random, &codes, 3_000),
-        }
-    };
-    let mut block = vec![0; BLOCK];
-    (0..45).for_each(|_| assert!(edition.add(&mut block, &episode(2)).is_ok()));
-    Task::Add { edition, block, episode: episode(30) }
 }
 
 /// What becomes of the events that a tree gives.

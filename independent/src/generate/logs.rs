@@ -3,7 +3,6 @@
 use super::random::Random;
 use super::trees::short_episode;
 use crate::block::BLOCK;
-use crate::edition::{Edition, First};
 use crate::log::{add, log_of, Episode, MOST_BLOCKS};
 use crate::tree::Tree;
 
@@ -44,22 +43,13 @@ pub fn block_with(random: &mut Random, free: usize) -> Vec<u8> {
     block
 }
 
-/// Blocks of the first edition into which no more episodes went, though a good many were tried.
-pub fn full_log(random: &mut Random, blocks: usize, next: impl FnMut(&mut Random) -> Episode) -> Vec<u8> {
-    full_log_of(First, random, blocks, next)
-}
-
-pub fn full_log_of(
-    edition: Edition,
-    random: &mut Random,
-    blocks: usize,
-    mut next: impl FnMut(&mut Random) -> Episode,
-) -> Vec<u8> {
+/// Blocks into which no more episodes went, though a good many were tried.
+pub fn full_log(random: &mut Random, blocks: usize, mut next: impl FnMut(&mut Random) -> Episode) -> Vec<u8> {
     let mut log = vec![0; blocks * BLOCK];
     for block in log.chunks_mut(BLOCK) {
         let mut turned_away = 0;
         while turned_away < 40 {
-            turned_away += edition.add(block, &next(random)).is_err() as usize;
+            turned_away += add(block, &next(random)).is_err() as usize;
         }
     }
     log

@@ -7,5 +7,4 @@ pub mod heartbeats;
 pub mod largest;
 pub mod logs;
 pub mod random;
-pub mod stamps;
 pub mod trees;

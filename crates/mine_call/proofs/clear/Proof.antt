@@ -4,7 +4,7 @@ use Prim.Native.Nat.{ℕ, ◌+◌, ◌-◌, ◌≤◌}
 use native.Mathlib.Omega.{arith}
 use lib.ListN.{length, drop, length-set}
 use Rattle.rules.specs.Words.{zeros}
-use Rattle.rules.proofs.ClearLaws.{clear_next}
+use Rattle.mine_call.proofs.ClearLaws.{clear_next}
 use borrow.Author.Rules.{rules}
 use Rattle.mine_call.proofs.clear.Statement.{statement}
 use Rattle.mine_call.proofs.clear.Tie as tie

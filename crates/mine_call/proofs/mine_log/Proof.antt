@@ -2,8 +2,7 @@ use mathlib.Core.Path.{sym, ap, ◌∙◌}
 use lib.Seq.{length-take-le}
 use Rattle.rules.specs.Trees.{size}
 use Rattle.rules.specs.TreeBlock.{tree_block}
-use Rattle.rules.proofs.ClearLaws.{clear_whole}
-use Rattle.mine_call.proofs.CallLaws.{same_tree, root_again}
+use Rattle.mine_call.proofs.CallLaws.{same_tree, root_again, clear_whole}
 use borrow.Author.Rules.{rules}
 use Rattle.mine_call.proofs.mine_log.Statement.{statement}
 use Rattle.mine_call.proofs.mine_log.Tie as tie
@@ -50,9 +49,9 @@ mine-tree-requires c κs =
     let start = stored.before.before.before.before.before in
     let first = stored.gather in
     let listed = again.list-again in (
-      start.requires.2,
+      start.requires.0,
       listed.ensures.1.listed,
-      root_again start.args.w start.args.log.now first.result listed.result first.new.1.0 listed.new.1.0 _ first.ensures.1 listed.ensures.1 root.root-of.ensures,
+      root_again 1 start.args.log.now first.result listed.result first.new.1.0 listed.new.1.0 _ first.ensures.1 listed.ensures.1 root.root-of.ensures,
     )
 
 clear-requires : tie.Need-clear-requires
@@ -70,7 +69,7 @@ returns c =
     let start = again.before.before.before.before.before.before.before.before.before.before.before.before.before in
     let a = start.args in
     let listed = again.list-again in
-    let tree = same_tree a.w a.log.now listed.result listed.new.1.0 listed.ensures.1 in
+    let tree = same_tree 1 a.log.now listed.result listed.new.1.0 listed.ensures.1 in
     let mined = c.before.before.before.before.before.before.mine-tree in
     let zeroed = c.before.before.clear in
     (mined.ensures.0 ∙ ap size tree, mined.ensures.1 ∙ ap tree_block tree, zeroed.ensures ∙ clear_whole 16384 listed.new.1.0 listed.ensures.0)

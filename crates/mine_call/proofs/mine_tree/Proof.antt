@@ -2,10 +2,9 @@ use mathlib.Core.Path.{ap, ◌∙◌}
 use native.Mathlib.Nat.{zero-add}
 use lib.ListN.{length}
 use Rattle.rules.specs.Trees.{size}
-use Rattle.rules.proofs.ClearLaws.{clear_whole}
 use Rattle.rules.proofs.TreeBlockLaws.{zeros_length}
 use Rattle.mine_places.specs.Places.{episodes_of}
-use Rattle.mine_call.proofs.CallLaws.{listed_below, root_ready, root_mined, block_is}
+use Rattle.mine_call.proofs.CallLaws.{listed_below, root_ready, root_mined, clear_whole, block_is}
 use borrow.Author.Rules.{rules}
 use Rattle.mine_call.proofs.mine_tree.Statement.{statement}
 use Rattle.mine_call.proofs.mine_tree.Tie as tie

@@ -5,9 +5,9 @@ use lib.ListN.{length}
 use borrow.Author.Rules.{rules}
 use Rattle.rules.specs.Mining.{Log}
 use Rattle.rules.specs.Refusals.{Given}
-use Rattle.rules.specs.LogBlock.{blocks_at, codes_by, episodes_from, log_episodes, read_log}
+use Rattle.rules.specs.LogBlock.{blocks_at, episodes_from, log_episodes}
 use Rattle.rules.specs.Calls.{top_code}
-use Rattle.log_episodes.proofs.EpisodeLaws.{log_sound_lem, blocks_sound, blocks_read_end}
+use Rattle.log_episodes.proofs.EpisodeLaws.{log_sound_lem, blocks_sound, blocks-episodes-end}
 use Rattle.mine_gather.specs.Gathering.{Gathered}
 use Rattle.mine_gather.proofs.BlockLaws.{block_here, blocks_here}
 use Rattle.mine_gather.proofs.GatherLaws.{gather_start, gather_next, gather_whole}
@@ -30,7 +30,7 @@ loop-holds c =
     let start = c.before.before.before.before.before.before in
     let a = start.args in
     let cleared = c.before.before.clear-hints in
-    (log_sound_lem a.w a.log.now start.requires.4, omega arith, omega (arith, start.requires.2), unfold read_log in gather_start a.w a.log.now (log_episodes a.w a.log.now) 0 cleared.new.0 tt)
+    (log_sound_lem a.w a.log.now start.requires.4, omega arith, omega (arith, start.requires.2), unfold log_episodes in gather_start a.w a.log.now (log_episodes a.w a.log.now) 0 cleared.new.0 tt)
 
 gather-block-requires : tie.Need-gather-block-requires invariant-loop decreases-loop
 gather-block-requires c κs =
@@ -78,7 +78,7 @@ returns c =
     let a = start.args in
     let cleared = c.before.before.before.before.clear-hints in
     let l = c.before.loop in
-    let g = subst (λ (r : Log). Gathered a.w a.log.now (log_episodes a.w a.log.now) r 0 cleared.new.0 l.n l.work) (blocks_read_end codes_by a.w a.log.now l.base l.blocks (omega arith)) l.invariant.3 in
+    let g = subst (λ (r : Log). Gathered a.w a.log.now (log_episodes a.w a.log.now) r 0 cleared.new.0 l.n l.work) (blocks-episodes-end a.w a.log.now l.base l.blocks (omega arith)) l.invariant.3 in
     let same = gather_whole a.w a.log.now (log_episodes a.w a.log.now) cleared.new.0 l.n l.work g in
     (g.size ∙ cleared.ensures, record { few = omega (arith, l.invariant.2); listed = record { few = start.requires.1; all = g.all }; same = same })
 

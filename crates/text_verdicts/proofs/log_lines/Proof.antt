@@ -5,7 +5,7 @@ use mir.Facts.{Fits-widen}
 use borrow.Author.Rules.{rules}
 use lib.ListN.{length}
 use Rattle.rules.specs.Refusals.{Given}
-use Rattle.rules.specs.LogBlock.{blocks_at, episodes_from, log_episodes, read_log}
+use Rattle.rules.specs.LogBlock.{blocks_at, episodes_from, log_episodes}
 use Rattle.rules.specs.Calls.{top_code}
 use Rattle.text_verdicts.specs.Lines.{Lines}
 use Rattle.log_episodes.proofs.EpisodeLaws.{log_sound_lem, block_sound, blocks_sound}
@@ -25,7 +25,7 @@ abbrev decreases-loop : tie.decreases-loop
 decreases-loop tree log work₀ text₀ base₀ left₀ number₀ next₀ work text base left number next = left
 
 loop-holds : tie.Need-loop-init invariant-loop decreases-loop
-unfolding read_log
+unfolding log_episodes
 loop-holds c = (search log_sound_lem, omega arith, omega arith, refl, lines_none _ _ _ _ _ _ refl)
 
 add-end : tie.Need-overflow-add-end invariant-loop decreases-loop

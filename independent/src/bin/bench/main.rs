@@ -14,9 +14,7 @@ mod stack;
 use independent::block::BLOCK;
 use independent::bridge::{self, Asked, Bridge, Request};
 use independent::calls::{Gateway, Plain, JUDGING_WORK, MINING_WORK};
-use independent::edition::{Edition, First, Second};
 use independent::fast::Fast;
-use independent::gaps::GAPS;
 use independent::generate::largest::{task, Task, SHAPES};
 use std::io::Write;
 use std::process::ExitCode;
@@ -36,25 +34,15 @@ pub struct Call {
     task: Lent,
 }
 
-#[derive(Clone)]
 enum Lent {
-    Mine { edition: Edition, log: Vec<u8>, out: Vec<u8>, work: Vec<u8> },
+    Mine { log: Vec<u8>, out: Vec<u8>, work: Vec<u8> },
     Judge { tree: Vec<u8>, episode: Vec<u8>, work: Vec<u64> },
-    Report { log: Vec<u8>, gaps: Vec<u32> },
-    Add { edition: Edition, block: Vec<u8>, episode: Vec<u8> },
 }
 
 impl Lent {
-    fn mine(edition: Edition, log: Vec<u8>) -> Lent {
-        Lent::Mine { edition, log, out: vec![0; BLOCK], work: vec![0; MINING_WORK] }
-    }
-
     fn named(case: &str) -> Option<Lent> {
         Some(match task(case)? {
-            Task::Mine { log } => Lent::mine(First, log),
-            Task::MineStamped { log } => Lent::mine(Second, log),
-            Task::Report { log } => Lent::Report { log, gaps: vec![0; GAPS] },
-            Task::Add { edition, block, episode } => Lent::Add { edition, block, episode },
+            Task::Mine { log } => Lent::Mine { log, out: vec![0; BLOCK], work: vec![0; MINING_WORK] },
             Task::Judge { block, episode } => {
                 Lent::Judge { tree: block.to_vec(), episode, work: vec![0; JUDGING_WORK] }
             }
@@ -62,17 +50,9 @@ impl Lent {
     }
 
     fn request(&mut self) -> Request<'_> {
-        use bridge::Lent::{Gaps, Numbers, Read, Write};
+        use bridge::Lent::{Numbers, Read, Write};
         let (call, lent) = match self {
-            Lent::Mine { edition, log, out, work } => {
-                let call = if *edition == First { Asked::Mine } else { Asked::MineStamped };
-                (call, vec![Read(log), Write(out), Write(work)])
-            }
-            Lent::Report { log, gaps } => (Asked::Gaps, vec![Read(log), Gaps(gaps)]),
-            Lent::Add { edition, block, episode } => {
-                let call = if *edition == First { Asked::Add } else { Asked::AddStamped };
-                (call, vec![Write(block), Read(episode)])
-            }
+            Lent::Mine { log, out, work } => (Asked::Mine, vec![Read(log), Write(out), Write(work)]),
             Lent::Judge { tree, episode, work } => (Asked::Judge, vec![Read(tree), Read(episode), Numbers(work)]),
         };
         Request { call, at: 0, lent }
@@ -94,11 +74,7 @@ impl Call {
 #[inline(never)]
 pub extern "C" fn measured_call(call: &mut Call) -> u64 {
     match &mut call.task {
-        Lent::Mine { edition: First, log, out, work } => call.side.mine(log, out, work),
-        Lent::Mine { edition: Second, log, out, work } => call.side.mine_stamped(log, out, work),
-        Lent::Report { log, gaps } => call.side.gaps(log, gaps),
-        Lent::Add { edition: First, block, episode } => call.side.add(block, episode),
-        Lent::Add { edition: Second, block, episode } => call.side.add_stamped(block, episode),
+        Lent::Mine { log, out, work } => call.side.mine(log, out, work),
         Lent::Judge { tree, episode, work } => call.side.judge(tree, episode, work),
     }
 }

@@ -28,20 +28,4 @@ impl Gateway for Nothing {
     fn judge(&self, _: &[u8], _: &[u8], _: &mut [u64]) -> u64 {
         0
     }
-
-    fn read_stamped(&self, _: &[u8], _: usize) -> u64 {
-        0
-    }
-
-    fn add_stamped(&self, _: &mut [u8], _: &[u8]) -> u64 {
-        0
-    }
-
-    fn mine_stamped(&self, _: &[u8], _: &mut [u8], _: &mut [u8]) -> u64 {
-        0
-    }
-
-    fn gaps(&self, _: &[u8], _: &mut [u32]) -> u64 {
-        0
-    }
 }

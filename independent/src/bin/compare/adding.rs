@@ -3,7 +3,6 @@
 use crate::tally::Tally;
 use crate::trial::Case;
 use independent::block::{write_check, BLOCK};
-use independent::edition::First;
 use independent::generate::damage::{damage_log_block, LogDamage, LOG_DAMAGES};
 use independent::generate::logs::{any_episode, block_with, full_log};
 use independent::generate::random::Random;
@@ -16,16 +15,16 @@ pub fn every_length(tally: &mut Tally) {
         for length in 0..=66 {
             let codes =
                 |random: &mut Random, top| (0..length).map(|_| random.between(0, top) as u8).collect::<Vec<_>>();
-            tally.case(Case::Add { edition: First, block: block.clone(), episode: codes(&mut random, 31) });
-            tally.case(Case::Add { edition: First, block: block.clone(), episode: codes(&mut random, 33) });
-            tally.case(Case::Add { edition: First, block: block.clone(), episode: codes(&mut random, 255) });
+            tally.case(Case::Add { block: block.clone(), episode: codes(&mut random, 31) });
+            tally.case(Case::Add { block: block.clone(), episode: codes(&mut random, 33) });
+            tally.case(Case::Add { block: block.clone(), episode: codes(&mut random, 255) });
         }
     }
     for length in [0, 1, 2, 508, 511, 513, 1024] {
-        tally.case(Case::Add { edition: First, block: vec![0; length], episode: vec![1] });
-        tally.case(Case::Add { edition: First, block: vec![0; length], episode: vec![] });
+        tally.case(Case::Add { block: vec![0; length], episode: vec![1] });
+        tally.case(Case::Add { block: vec![0; length], episode: vec![] });
     }
-    tally.case(Case::Add { edition: First, block: vec![0; BLOCK], episode: vec![0; 100_000] });
+    tally.case(Case::Add { block: vec![0; BLOCK], episode: vec![0; 100_000] });
 }
 
 /// Each block is built by the calls themselves, an episode at a time and some episodes too many.
@@ -38,17 +37,17 @@ pub fn filled_up(tally: &mut Tally) {
             let episode = any_episode(&mut random, 32, longest);
             let before = block.clone();
             turned_away += add(&mut block, &episode).is_err() as usize;
-            tally.case(Case::Add { edition: First, block: before, episode });
+            tally.case(Case::Add { block: before, episode });
         }
     }
     // A sound block whose padding would read as records if the count were larger, and one of empty records only.
     let mut block = vec![0; BLOCK];
     block[0] = 255;
     write_check(&mut block);
-    tally.case(Case::Add { edition: First, block: block.clone(), episode: vec![] });
+    tally.case(Case::Add { block: block.clone(), episode: vec![] });
     block[0] = 254;
     write_check(&mut block);
-    tally.case(Case::Add { edition: First, block, episode: vec![3, 2, 1] });
+    tally.case(Case::Add { block, episode: vec![3, 2, 1] });
 }
 
 #[derive(Clone, Copy)]
@@ -90,7 +89,7 @@ fn faulty(random: &mut Random, faults: &[Fault]) -> Case {
     }
     for fault in faults {
         match fault {
-            Fault::Block(damage) => damage_log_block(random, First, &mut block, *damage),
+            Fault::Block(damage) => damage_log_block(random, &mut block, *damage),
             Fault::LongEpisode => episode.extend([1; 64]),
             Fault::LargeCode => {
                 let places = [episode.len(), 0, episode.len() / 2];
@@ -105,5 +104,5 @@ fn faulty(random: &mut Random, faults: &[Fault]) -> Case {
     if faults.iter().any(|fault| matches!(fault, Fault::Length)) {
         block.resize(*random.pick(&[0, 1, 511, 513, 1024]), 0);
     }
-    Case::Add { edition: First, block, episode }
+    Case::Add { block, episode }
 }

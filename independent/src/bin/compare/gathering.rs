@@ -2,12 +2,10 @@
 //! that are taken for one, a list or a table that does not begin empty or does not hold them all.
 
 use crate::heartbeats::beating;
-use crate::stamped::mining::mine_stamped_too;
 use crate::tally::Tally;
 use crate::trial::{Case, Found, Outcome};
 use independent::block::BLOCK;
 use independent::calls::MINING_WORK;
-use independent::edition::First;
 use independent::generate::distinct::every_episode;
 use independent::generate::logs::tree_episodes;
 use independent::generate::random::Random;
@@ -20,17 +18,11 @@ use independent::mine::mine;
 pub struct Miner<'a> {
     tally: &'a mut Tally,
     turn: usize,
-    /// Every log that 16 blocks hold with ticks is mined stamped too.
-    stamps: bool,
 }
 
 impl<'a> Miner<'a> {
     pub fn new(tally: &'a mut Tally) -> Miner<'a> {
-        Miner { tally, turn: 0, stamps: false }
-    }
-
-    pub fn stamping(tally: &'a mut Tally) -> Miner<'a> {
-        Miner { tally, turn: 0, stamps: true }
+        Miner { tally, turn: 0 }
     }
 
     pub fn mine(&mut self, log: Vec<u8>) -> Outcome {
@@ -40,12 +32,7 @@ impl<'a> Miner<'a> {
     }
 
     fn mine_with(&mut self, log: Vec<u8>, found: Found) -> Outcome {
-        let case = Case::Mine { edition: First, log, out: BLOCK, work: MINING_WORK, found };
-        let outcome = beating(self.tally, &case);
-        if self.stamps {
-            mine_stamped_too(self.tally, &case, &outcome);
-        }
-        outcome
+        beating(self.tally, Case::Mine { log, out: BLOCK, work: MINING_WORK, found })
     }
 
     pub fn meets(&mut self, form: &'static str) {

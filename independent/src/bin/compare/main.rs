@@ -1,8 +1,7 @@
 //! Compares the plain implementation with the fast one and, with the feature `library`, with the proved library, on
 //! inputs that are the same on every run. The last line counts the cases; the exit status is 1 if one failed.
 //!
-//!     compare [CALL]      CALL is reading, adding, mining, checking, judging or reporting; all of them if it is left out;
-//!                         `reading stamped`, `adding stamped` and `mining stamped` are the second edition's alone
+//!     compare [CALL]      CALL is reading, adding, mining, checking or judging; all of them if it is left out
 
 mod adding;
 mod forms;
@@ -13,7 +12,6 @@ mod mining;
 mod parallel;
 mod reading;
 mod slots;
-mod stamped;
 mod tally;
 mod trees;
 mod trial;
@@ -25,34 +23,23 @@ fn main() -> ExitCode {
     let wanted = std::env::args().nth(1).unwrap_or_default();
     let mut tally = Tally::new();
     for (name, suite) in SUITES.into_iter().filter(|(name, _)| name.starts_with(&wanted)) {
-        let [cases, stamped_too] = [tally.cases, tally.stamped_too];
+        let before = tally.cases;
         suite(&mut tally);
-        let stamped_too = tally.stamped_too - stamped_too;
-        print!("{name}: {} cases", tally.cases - cases - stamped_too);
-        println!("{}", if stamped_too > 0 { format!(", {stamped_too} of them stamped too") } else { String::new() });
+        println!("{name}: {} cases", tally.cases - before);
     }
     tally.report(&wanted)
 }
 
 type Suite = fn(&mut Tally);
 
-const SUITES: [(&str, Suite); 75] = [
+const SUITES: [(&str, Suite); 45] = [
     ("reading, every place of a block", reading::every_place),
     ("reading, lengths and far places", reading::lengths),
     ("reading, records with heartbeats", heartbeats::reading::every_record),
-    ("reading stamped, every place of a block", stamped::reading::every_place),
-    ("reading stamped, lengths and far places", stamped::reading::lengths),
-    ("reading stamped, just room and too little", stamped::reading::every_room),
-    ("reading stamped, every code and every tick", stamped::reading::every_code),
     ("adding, every length of episode", adding::every_length),
     ("adding, blocks filled up", adding::filled_up),
     ("adding, two faults at once", adding::two_faults),
     ("adding, episodes with heartbeats", heartbeats::adding::every_episode),
-    ("adding stamped, every number of bytes", stamped::adding::every_length),
-    ("adding stamped, just room and too little", stamped::adding::every_room),
-    ("adding stamped, every code and every tick", stamped::adding::every_code),
-    ("adding stamped, blocks filled up", stamped::adding::filled_up),
-    ("adding stamped, two faults at once", stamped::faults::adding),
     ("mining, every log of up to three short episodes", mining::small_logs),
     ("mining, logs of trees and of any codes", mining::some_logs),
     ("mining, logs of trees with a few events changed", mining::near_trees),
@@ -79,27 +66,6 @@ const SUITES: [(&str, Suite); 75] = [
     ("mining, full logs with heartbeats", heartbeats::mining::full_logs),
     ("mining, nearly equal episodes with heartbeats", heartbeats::mining::nearly_equal),
     ("mining, a code above 31 behind heartbeats", heartbeats::mining::large_codes),
-    ("mining stamped, small logs", stamped::mining::small_logs),
-    ("mining stamped, logs of trees with heartbeats", stamped::mining::some_logs),
-    ("mining stamped, records that differ in ticks alone", stamped::mining::ticks_alone),
-    ("mining stamped, records that differ in codes alone", stamped::mining::codes_alone),
-    ("mining stamped, full logs", stamped::mining::full_logs),
-    ("mining stamped, many episodes for a few slots", stamped::mining::crowded),
-    ("mining stamped, nearly equal episodes that meet in a slot", stamped::mining::nearly_equal),
-    ("mining stamped, records at the end and codes above 31", stamped::mining::records),
-    ("mining stamped, lent memory", stamped::mining::lent_memory),
-    ("mining stamped, two faults at once", stamped::faults::mining),
-    ("reporting, every pair", stamped::pairs::every_pair),
-    ("reporting, ticks", stamped::pairs::every_tick),
-    ("reporting, heartbeats", stamped::pairs::heartbeats),
-    ("reporting, a pair that occurs more than once", stamped::pairs::occurrences),
-    ("reporting, events of two records", stamped::pairs::apart),
-    ("reporting, all pairs", stamped::pairs::all_pairs),
-    ("reporting, logs of trees and of any codes", stamped::reporting::some_logs),
-    ("reporting, full logs", stamped::reporting::full_logs),
-    ("reporting, lent numbers", stamped::reporting::lent_numbers),
-    ("reporting, every code and every tick", stamped::reporting::every_code),
-    ("reporting, two faults at once", stamped::faults::reporting),
     ("checking, sound and damaged trees", trees::sound_and_damaged),
     ("checking, every byte changed", trees::every_byte),
     ("checking, a leaf 31 and a leaf 30", heartbeats::checking::every_leaf),

@@ -4,7 +4,6 @@ use crate::tally::Tally;
 use crate::trial::Case;
 use independent::block::{write_check, BLOCK};
 use independent::calls::MINING_WORK;
-use independent::edition::First;
 use independent::generate::damage::{damage_log_block, LogDamage, LOG_DAMAGES};
 use independent::generate::heartbeats::put_anywhere;
 use independent::generate::largest::{Task, SHAPES};
@@ -225,9 +224,7 @@ fn faulty(random: &mut Random, faults: [(Fault, usize); 2]) -> Case {
     for (fault, number) in faults {
         match fault {
             Fault::Block(LogDamage::NoRecord) => log.fill(0),
-            Fault::Block(damage) => {
-                damage_log_block(random, First, &mut log[number * BLOCK..(number + 1) * BLOCK], damage)
-            }
+            Fault::Block(damage) => damage_log_block(random, &mut log[number * BLOCK..(number + 1) * BLOCK], damage),
             _ => {}
         }
     }

@@ -3,7 +3,6 @@
 use crate::tally::Tally;
 use crate::trial::Case;
 use independent::block::BLOCK;
-use independent::edition::First;
 use independent::generate::damage::{damage_log_block, LOG_DAMAGES};
 use independent::generate::logs::{any_episode, full_log};
 use independent::generate::random::Random;
@@ -12,7 +11,7 @@ pub fn every_place(tally: &mut Tally) {
     let mut random = Random::seeded(11);
     for block in some_blocks(&mut random) {
         for at in 0..BLOCK + 8 {
-            tally.case(Case::Read { edition: First, block: block.clone(), at });
+            tally.case(Case::Read { block: block.clone(), at });
         }
     }
 }
@@ -25,7 +24,7 @@ fn some_blocks(random: &mut Random) -> Vec<Vec<u8>> {
         let full = full_log(random, 1, |random| any_episode(random, 32, longest));
         for damage in LOG_DAMAGES {
             let mut block = full.clone();
-            damage_log_block(random, First, &mut block, damage);
+            damage_log_block(random, &mut block, damage);
             blocks.push(block);
         }
         blocks.push(full);
@@ -36,7 +35,7 @@ fn some_blocks(random: &mut Random) -> Vec<Vec<u8>> {
 pub fn lengths(tally: &mut Tally) {
     for length in [0, 1, 2, 508, 511, 512, 513, 1024, 8192] {
         for at in [0, 1, 2, 507, 508, 511, 512, 1 << 16, 1 << 32, (1 << 32) + 1, usize::MAX - 1, usize::MAX] {
-            tally.case(Case::Read { edition: First, block: vec![0; length], at });
+            tally.case(Case::Read { block: vec![0; length], at });
         }
     }
 }

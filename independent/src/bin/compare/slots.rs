@@ -135,11 +135,8 @@ impl Table {
 
 /// One of two nearly equal ones is looked for where the other stands, behind slots that are all taken.
 pub fn nearly_equal(tally: &mut Tally) {
-    nearly_equal_by(Miner::new(tally));
-}
-
-pub fn nearly_equal_by(mut miner: Miner) {
     let mut random = Random::seeded(40);
+    let mut miner = Miner::new(tally);
     for table in NUMBERS.map(Table::of) {
         for kind in kinds() {
             meet(&mut miner, &mut random, &table, kind);

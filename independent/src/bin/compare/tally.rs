@@ -1,14 +1,11 @@
 //! Runs cases on all sides and counts what agreed and which rows of the table were met.
 
 use crate::forms::{Built, FORMS};
-use crate::stamped::mining::mine_stamped_too;
 use crate::trial::{run, Case, Outcome, GUARD};
 use independent::answer::unpacked;
 use independent::bridge::Bridge;
 use independent::calls::{Gateway, Plain};
-use independent::edition::First;
 use independent::fast::Fast;
-use std::borrow::Borrow;
 use std::collections::BTreeMap;
 use std::process::ExitCode;
 
@@ -32,26 +29,15 @@ pub struct Tally {
     laws: BTreeMap<&'static str, [usize; 2]>,
     /// How often each form came up that a call's cases were built for.
     forms: BTreeMap<(&'static str, &'static str), usize>,
-    /// The logs of the first edition that were mined.
-    mined: usize,
-    /// Those of them that were mined stamped too, each a case more.
-    pub stamped_too: usize,
 }
 
-/// Of so many mined logs of the first edition one is mined stamped too.
-const STAMPED_TOO: usize = 5;
-
 /// The numbers that each call gives, 0 for accepting; every one must be met.
-const NUMBERS: [(&str, &[u8]); 9] = [
+const NUMBERS: [(&str, &[u8]); 5] = [
     ("reading", &[0, 1, 5, 6]),
     ("adding", &[0, 1, 4, 5, 6, 10, 11, 12]),
     ("mining", &[0, 1, 2, 3, 4, 5, 6, 7]),
     ("checking", &[0, 8, 9]),
     ("judging", &[0, 3, 8, 9, 10, 11]),
-    ("reading stamped", &[0, 1, 5, 6]),
-    ("adding stamped", &[0, 1, 4, 5, 6, 10, 11, 12]),
-    ("mining stamped", &[0, 1, 2, 3, 4, 5, 6, 7]),
-    ("reporting", &[0, 1, 2, 4, 5, 6, 7]),
 ];
 
 fn side(gateway: Box<dyn Gateway>, only_nothing: bool) -> Side {
@@ -82,24 +68,12 @@ impl Tally {
         sides.extend(library_sides());
         sides.extend(bridge_sides());
         let (met, laws, forms) = (BTreeMap::new(), BTreeMap::new(), BTreeMap::new());
-        Tally { cases: 0, sides, met, verdicts: [0; 2], laws, forms, mined: 0, stamped_too: 0 }
+        Tally { cases: 0, sides, met, verdicts: [0; 2], laws, forms }
     }
 
     /// Compares every side with the plain one and answers the plain one's outcome.
-    pub fn case(&mut self, case: impl Borrow<Case>) -> Outcome {
-        let case = case.borrow();
-        let outcome = self.compare(case);
-        if let Case::Mine { edition: First, .. } = case {
-            self.mined += 1;
-            if self.mined.is_multiple_of(STAMPED_TOO) {
-                mine_stamped_too(self, case, &outcome);
-            }
-        }
-        outcome
-    }
-
-    fn compare(&mut self, case: &Case) -> Outcome {
-        let expected = run(&Plain, case);
+    pub fn case(&mut self, case: Case) -> Outcome {
+        let expected = run(&Plain, &case);
         let number = unpacked(expected.answer).map_or_else(|refusal| refusal.number, |_| 0);
         *self.met.entry((case.call(), number)).or_default() += 1;
         if let Case::Judge { .. } = case {
@@ -112,7 +86,7 @@ impl Tally {
             if side.only_nothing && !case.lends_nothing() {
                 continue;
             }
-            let got = run(side.gateway.as_ref(), case);
+            let got = run(side.gateway.as_ref(), &case);
             if got == expected {
                 side.passed += 1;
             } else {
@@ -120,7 +94,7 @@ impl Tally {
                 let shown = side.shown.entry(case.call()).or_default();
                 *shown += 1;
                 if *shown <= 3 {
-                    describe(side.gateway.name(), case, &expected, &got);
+                    describe(side.gateway.name(), &case, &expected, &got);
                 }
             }
         }

@@ -2,44 +2,38 @@
 
 use independent::block::BLOCK;
 use independent::calls::Gateway;
-use independent::edition::{Edition, First, Second};
 use independent::tree::{well_formed, Tree};
 use std::fmt;
 
 pub enum Case {
-    Read { edition: Edition, block: Vec<u8>, at: usize },
-    Add { edition: Edition, block: Vec<u8>, episode: Vec<u8> },
-    Mine { edition: Edition, log: Vec<u8>, out: usize, work: usize, found: Found },
+    Read { block: Vec<u8>, at: usize },
+    Add { block: Vec<u8>, episode: Vec<u8> },
+    Mine { log: Vec<u8>, out: usize, work: usize, found: Found },
     Check { tree: Vec<u8> },
     Judge { tree: Vec<u8>, episode: Vec<u8>, work: usize },
-    Report { log: Vec<u8>, gaps: usize, found: Found },
 }
 
-/// What the work of mining or the numbers of the report hold when the call begins.
+/// What the work of mining holds when the call begins.
 #[derive(Clone, Copy, Debug)]
 pub enum Found {
-    /// Bytes or numbers of which none is zero.
+    /// Bytes of which none is zero.
     Dirty,
-    /// One number again and again; in the work it takes two bytes, as a list or a table of places may hold it.
+    /// One number of two bytes again and again, as a list or a table of places may hold it.
     Numbers(u16),
 }
 
 impl Case {
     pub fn mine(log: Vec<u8>, out: usize, work: usize) -> Case {
-        Case::Mine { edition: First, log, out, work, found: Found::Dirty }
+        Case::Mine { log, out, work, found: Found::Dirty }
     }
 
     pub fn call(&self) -> &'static str {
         match self {
-            Case::Read { edition: First, .. } => "reading",
-            Case::Read { edition: Second, .. } => "reading stamped",
-            Case::Add { edition: First, .. } => "adding",
-            Case::Add { edition: Second, .. } => "adding stamped",
-            Case::Mine { edition: First, .. } => "mining",
-            Case::Mine { edition: Second, .. } => "mining stamped",
+            Case::Read { .. } => "reading",
+            Case::Add { .. } => "adding",
+            Case::Mine { .. } => "mining",
             Case::Check { .. } => "checking",
             Case::Judge { .. } => "judging",
-            Case::Report { .. } => "reporting",
         }
     }
 
@@ -47,11 +41,10 @@ impl Case {
     pub fn lends_nothing(&self) -> bool {
         match self {
             Case::Read { block, .. } => block.is_empty(),
-            Case::Add { block, episode, .. } => block.is_empty() || episode.is_empty(),
+            Case::Add { block, episode } => block.is_empty() || episode.is_empty(),
             Case::Mine { log, out, work, .. } => log.is_empty() || *out == 0 || *work == 0,
             Case::Check { tree } => tree.is_empty(),
             Case::Judge { tree, episode, work } => tree.is_empty() || episode.is_empty() || *work == 0,
-            Case::Report { log, gaps, .. } => log.is_empty() || *gaps == 0,
         }
     }
 }
@@ -70,16 +63,15 @@ impl fmt::Display for Hex<'_> {
 impl fmt::Display for Case {
     fn fmt(&self, to: &mut fmt::Formatter) -> fmt::Result {
         match self {
-            Case::Read { block, at, .. } => write!(to, "block {}, place {at}", Hex(block)),
-            Case::Add { block, episode, .. } => write!(to, "block {}, episode {}", Hex(block), Hex(episode)),
-            Case::Mine { log, out, work, found, .. } => {
+            Case::Read { block, at } => write!(to, "block {}, place {at}", Hex(block)),
+            Case::Add { block, episode } => write!(to, "block {}, episode {}", Hex(block), Hex(episode)),
+            Case::Mine { log, out, work, found } => {
                 write!(to, "log {}, {out} bytes to write, work {work}, in it {found:?}", Hex(log))
             }
             Case::Check { tree } => write!(to, "tree {}", Hex(tree)),
             Case::Judge { tree, episode, work } => {
                 write!(to, "tree {}, episode {}, work {work}", Hex(tree), Hex(episode))
             }
-            Case::Report { log, gaps, found } => write!(to, "log {}, {gaps} numbers, in them {found:?}", Hex(log)),
         }
     }
 }
@@ -106,11 +98,6 @@ impl Outcome {
     /// The lent bytes of this number, their guards taken off.
     pub fn lent(&self, number: usize) -> &[u8] {
         &self.bytes[number][GUARD..self.bytes[number].len() - GUARD]
-    }
-
-    /// The lent numbers, their guards taken off.
-    pub fn lent_numbers(&self) -> &[u64] {
-        &self.numbers[GUARD..self.numbers.len() - GUARD]
     }
 }
 
@@ -140,14 +127,6 @@ fn dirty_number(place: usize) -> u64 {
     (place as u64 + 1).wrapping_mul(0x9e37_79b9_7f4a_7c15) | 1
 }
 
-fn lent_gaps(length: usize, found: Found) -> Lent<u32> {
-    let mut lent = Lent::filled(length, |place| dirty_number(place) as u32);
-    if let Found::Numbers(number) = found {
-        lent.inner().fill(number as u32);
-    }
-    lent
-}
-
 fn lent_bytes(bytes: &[u8]) -> Lent<u8> {
     let mut lent = Lent::filled(bytes.len(), dirty);
     lent.inner().copy_from_slice(bytes);
@@ -164,28 +143,19 @@ fn lent_work(length: usize, found: Found) -> Lent<u8> {
 
 pub fn run(side: &dyn Gateway, case: &Case) -> Outcome {
     match case {
-        Case::Read { edition, block, at } => {
+        Case::Read { block, at } => {
             let mut block = lent_bytes(block);
-            let answer = match edition {
-                First => side.read(block.inner(), *at),
-                Second => side.read_stamped(block.inner(), *at),
-            };
+            let answer = side.read(block.inner(), *at);
             Outcome { answer, bytes: vec![block.0], numbers: vec![] }
         }
-        Case::Add { edition, block, episode } => {
+        Case::Add { block, episode } => {
             let (mut block, mut episode) = (lent_bytes(block), lent_bytes(episode));
-            let answer = match edition {
-                First => side.add(block.inner(), episode.inner()),
-                Second => side.add_stamped(block.inner(), episode.inner()),
-            };
+            let answer = side.add(block.inner(), episode.inner());
             Outcome { answer, bytes: vec![block.0, episode.0], numbers: vec![] }
         }
-        Case::Mine { edition, log, out, work, found } => {
+        Case::Mine { log, out, work, found } => {
             let (mut log, mut out, mut work) = (lent_bytes(log), Lent::filled(*out, dirty), lent_work(*work, *found));
-            let answer = match edition {
-                First => side.mine(log.inner(), out.inner(), work.inner()),
-                Second => side.mine_stamped(log.inner(), out.inner(), work.inner()),
-            };
+            let answer = side.mine(log.inner(), out.inner(), work.inner());
             Outcome { answer, bytes: vec![log.0, out.0, work.0], numbers: vec![] }
         }
         Case::Check { tree } => {
@@ -198,11 +168,6 @@ pub fn run(side: &dyn Gateway, case: &Case) -> Outcome {
             let mut work = Lent::filled(*work, dirty_number);
             let answer = side.judge(tree.inner(), episode.inner(), work.inner());
             Outcome { answer, bytes: vec![tree.0, episode.0], numbers: work.0 }
-        }
-        Case::Report { log, gaps, found } => {
-            let (mut log, mut gaps) = (lent_bytes(log), lent_gaps(*gaps, *found));
-            let answer = side.gaps(log.inner(), gaps.inner());
-            Outcome { answer, bytes: vec![log.0], numbers: gaps.0.into_iter().map(u64::from).collect() }
         }
     }
 }

@@ -5,7 +5,6 @@ use crate::forms::{ALL_ROOM, EVENTS_ROOM};
 use crate::tally::Tally;
 use crate::trial::{Case, Outcome};
 use independent::answer::{packed, refuse};
-use independent::edition::First;
 use independent::generate::logs::block_with;
 use independent::generate::random::Random;
 use independent::log::{events_of, records_of, Episode};
@@ -28,7 +27,7 @@ pub fn every_episode(tally: &mut Tally) {
 }
 
 fn add(tally: &mut Tally, blocks: &Blocks, free: usize, episode: &Episode) -> Outcome {
-    beating(tally, &Case::Add { edition: First, block: blocks.0[free].clone(), episode: episode.clone() })
+    beating(tally, Case::Add { block: blocks.0[free].clone(), episode: episode.clone() })
 }
 
 /// A block for every number of free payload bytes.

@@ -19,7 +19,7 @@ fn judge(tally: &mut Tally, tree: &Tree, episode: &[u8]) -> Outcome {
 }
 
 fn judge_with(tally: &mut Tally, tree: &[u8], episode: &[u8], work: usize) -> Outcome {
-    beating(tally, &Case::Judge { tree: tree.to_vec(), episode: episode.to_vec(), work })
+    beating(tally, Case::Judge { tree: tree.to_vec(), episode: episode.to_vec(), work })
 }
 
 /// Judges episodes that must differ in heartbeats alone from the first of them.

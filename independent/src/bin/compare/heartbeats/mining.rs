@@ -18,7 +18,7 @@ use independent::log::{episodes_of, events_of, log_of, Episode, EVENT_CODES, HEA
 const MOST_NODES: usize = 4 * EVENT_CODES - 1;
 
 fn mine(tally: &mut Tally, log: Vec<u8>) -> Outcome {
-    let outcome = beating(tally, &Case::mine(log, BLOCK, MINING_WORK));
+    let outcome = beating(tally, Case::mine(log, BLOCK, MINING_WORK));
     let sound = outcome.tree().is_some_and(|tree| tree.size() <= MOST_NODES && !tree.leaf_codes().contains(&HEARTBEAT));
     tally.holds("a mined tree has no leaf 31 and at most 123 nodes", sound);
     outcome
@@ -174,7 +174,7 @@ pub fn large_codes(tally: &mut Tally) {
             block[11] = length as u8;
             block[12..12 + length].copy_from_slice(&codes);
             write_check(block);
-            let answer = beating(tally, &Case::mine(log, BLOCK, MINING_WORK)).answer;
+            let answer = beating(tally, Case::mine(log, BLOCK, MINING_WORK)).answer;
             let due = packed(refuse(6, blocks * BLOCK + 12 + place));
             tally.holds("mining gives 6 at its own place behind heartbeats", answer == due);
         }

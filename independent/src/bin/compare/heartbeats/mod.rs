@@ -17,12 +17,12 @@ use std::collections::{BTreeMap, BTreeSet};
 type Forms = BTreeSet<&'static str>;
 
 /// Runs a case and counts where its heartbeats stand.
-pub fn beating(tally: &mut Tally, case: &Case) -> Outcome {
-    let forms = match case {
-        Case::Read { block, at, .. } => record(block, *at).map_or(Forms::new(), |codes| in_record(codes)),
+pub fn beating(tally: &mut Tally, case: Case) -> Outcome {
+    let forms = match &case {
+        Case::Read { block, at } => record(block, *at).map_or(Forms::new(), |codes| in_record(codes)),
         Case::Add { episode, .. } | Case::Judge { episode, .. } => in_record(episode),
         Case::Mine { log, .. } => in_log(log),
-        Case::Check { .. } | Case::Report { .. } => Forms::new(),
+        Case::Check { .. } => Forms::new(),
     };
     forms.into_iter().for_each(|form| tally.meets(case.call(), form));
     tally.case(case)
@@ -70,8 +70,7 @@ fn in_record(codes: &[u8]) -> Forms {
     forms
 }
 
-/// Where heartbeats stand in a log of the first edition.
-pub fn in_log(log: &[u8]) -> Forms {
+fn in_log(log: &[u8]) -> Forms {
     let blocks: Vec<Vec<&[u8]>> = log.chunks_exact(BLOCK).map(records).collect();
     let all = || blocks.iter().flatten();
     let mut same: BTreeMap<Episode, BTreeSet<&[u8]>> = BTreeMap::new();

@@ -5,7 +5,6 @@ use crate::tally::Tally;
 use crate::trial::Case;
 use independent::answer::{packed, refuse};
 use independent::block::{BLOCK, CHECK_AT};
-use independent::edition::First;
 
 /// Records of every length up to 66, heartbeats at every place of them, at the first byte that can hold one or at the last.
 pub fn every_record(tally: &mut Tally) {
@@ -13,12 +12,12 @@ pub fn every_record(tally: &mut Tally) {
         let at = [1, CHECK_AT - 1 - length][place % 2];
         for codes in at_place(length, place) {
             let next = if length > 63 { refuse(5, at) } else { Ok(at + 1 + length) };
-            let answer = beating(tally, &Case::Read { edition: First, block: block_with(&codes, at), at }).answer;
+            let answer = beating(tally, Case::Read { block: block_with(&codes, at), at }).answer;
             tally.holds("reading hands on 63 codes at most, heartbeats too", answer == packed(next));
         }
         for codes in large_at(length, place) {
             let due = if length > 63 { refuse(5, at) } else { refuse(6, at + 1 + place) };
-            let answer = beating(tally, &Case::Read { edition: First, block: block_with(&codes, at), at }).answer;
+            let answer = beating(tally, Case::Read { block: block_with(&codes, at), at }).answer;
             tally.holds("reading gives 5, then 6 at its own place, heartbeats counted", answer == packed(due));
         }
     }

@@ -1,14 +1,13 @@
--- Clearing lent cells one after another.
+-- Clearing bytes one after another.
 use mathlib.Core.Path.{◌≡◌, sym, ◌∙◌, ap}
-use mathlib.Core.List.{List, [], ◌∷◌, ◌++◌, append_assoc, append-nil}
+use mathlib.Core.List.{List, [], ◌∷◌, ◌++◌, append_assoc}
 use Prim.Native.Nat.{ℕ, suc, ◌+◌, ◌<◌}
 use native.Mathlib.Numerals.{add-one}
-use native.Mathlib.Omega.{arith}
-use lib.ListN.{length, get_or, set, drop, drop_of_length-le, replicate, length-replicate, replicate-append-replicate}
+use lib.ListN.{length, get_or, set, drop, replicate, length-replicate, replicate-append-replicate}
 use lib.Seq.{drop-cons, set-append_seam}
 use Rattle.rules.specs.Words.{zeros}
 
--- one cell more cleared
+-- one byte more cleared
 pub clear_next : (b new : List ℕ) (i : ℕ) → i < length b → new ≡ zeros i ++ drop i b → set new i 0 ≡ zeros (i + 1) ++ drop (i + 1) b
 unfolding zeros
 clear_next b new i h e =
@@ -19,7 +18,3 @@ clear_next b new i h e =
     ∙ sym (append_assoc (replicate i 0) (0 ∷ []) (drop (suc i) b))
     ∙ ap (λ (l : List ℕ). l ++ drop (suc i) b) (replicate-append-replicate i 1 0)
     ∙ ap (λ (k : ℕ). replicate (i + 1) 0 ++ drop k b) (sym (add-one i))
-
--- all of them cleared
-pub clear_whole : (n : ℕ) (b : List ℕ) → length b ≡ n → zeros n ++ drop n b ≡ zeros n
-clear_whole n b h = ap (λ (z : List ℕ). zeros n ++ z) (drop_of_length-le b {i = n} (omega arith)) ∙ append-nil (zeros n)

@@ -1,2 +1,0 @@
-pub mod ReportLaws
-pub mod Edges
