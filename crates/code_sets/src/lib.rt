@@ -9,7 +9,7 @@ use rules::NO_CODE;
 // A bit for each code.
 pub type Bits = u32;
 
-#[derive(Drop)]
+#[derive(Clone, Copy)]
 pub struct CodeSet {
     pub bits: Bits,
 }

@@ -10,7 +10,7 @@ use cut_parts::Parts;
 use rules::{CODE_COUNT, NO_CODE};
 
 // What joins two codes, by the edges between them: an edge either way, both edges or none, or not both.
-#[derive(Drop)]
+#[derive(Clone, Copy)]
 pub enum Bond {
     Either,
     Alike,

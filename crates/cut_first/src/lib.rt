@@ -8,14 +8,14 @@ use graph_rows::Graph;
 use rules::{CODE_COUNT, Operator};
 
 // Whether a graph has a cut, and by which operator.
-#[derive(Drop)]
+#[derive(Clone, Copy)]
 pub enum Found {
     Nothing,
     By(Operator),
 }
 
 // What was found, and the parts that were looked at last: those of the cut, if there is one.
-#[derive(Drop)]
+#[derive(Clone, Copy)]
 pub struct Cut {
     pub found: Found,
     pub parts: Parts,

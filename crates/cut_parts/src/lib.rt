@@ -9,7 +9,7 @@ use code_sets::Bits;
 use rules::CODE_COUNT;
 
 // Some sets of codes in order, the first n of `sets`.
-#[derive(Drop)]
+#[derive(Clone, Copy)]
 pub struct Parts {
     pub n: usize,
     pub sets: [Bits; CODE_COUNT],

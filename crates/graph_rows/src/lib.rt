@@ -4,7 +4,7 @@ ghost use Rattle.graph_rows.specs.Edges.{Bare, Noted, Started, Ended};
 use code_sets::{Bits, CodeSet};
 use rules::{CODE_COUNT, NO_CODE};
 
-#[derive(Drop)]
+#[derive(Clone, Copy)]
 pub struct Graph {
     pub rows: [Bits; CODE_COUNT],
     pub starts: CodeSet,

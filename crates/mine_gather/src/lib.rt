@@ -23,7 +23,7 @@ const SLOTS: usize = 2048;
 const TRIES: usize = 32;
 
 // An episode is listed already, or may be hinted at in a free slot, or all slots that were looked at hint at others.
-#[derive(Drop)]
+#[derive(Clone, Copy)]
 pub enum Found {
     Known,
     Room(usize),

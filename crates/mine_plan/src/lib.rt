@@ -14,21 +14,21 @@ use mine_views::View;
 use rules::{CODE_COUNT, Operator};
 
 // What has no cut.
-#[derive(Drop)]
+#[derive(Clone, Copy)]
 pub enum Base {
     Silent,
     Leaf,
     Flower,
 }
 
-#[derive(Drop)]
+#[derive(Clone, Copy)]
 pub enum Made {
     Uncut(Base),
     Cut(Operator),
 }
 
 // A cut's parts are the first n sets; `missed` has the numbers of those whose views have the empty episode.
-#[derive(Drop)]
+#[derive(Clone, Copy)]
 pub struct Plan {
     pub made: Made,
     pub n: u8,

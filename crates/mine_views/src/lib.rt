@@ -10,7 +10,7 @@ use code_sets::CodeSet;
 use rules::Operator;
 
 // The codes that are events of the sublog, those that end a sub-episode, and whether the empty episode is in it beside those.
-#[derive(Drop)]
+#[derive(Clone, Copy)]
 pub struct View {
     pub keep: CodeSet,
     pub breaks: CodeSet,

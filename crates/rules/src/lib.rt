@@ -1,14 +1,14 @@
 // What the calls answer, and the sizes of a log, of a tree and of work. What they mean is said in specs/.
 
 // The number that a call gives, or a refusal by its number and place in the table of refusals.
-#[derive(Drop)]
+#[derive(Clone, Copy)]
 pub enum Answer {
     Gives(usize),
     Refused { number: u8, place: usize },
 }
 
 // What judging answers.
-#[derive(Drop)]
+#[derive(Clone, Copy)]
 pub enum Verdict {
     Fits,
     Misfit,
@@ -16,7 +16,7 @@ pub enum Verdict {
 }
 
 // The operators of a tree.
-#[derive(Drop)]
+#[derive(Clone, Copy)]
 pub enum Operator {
     Choice,
     Sequence,

@@ -8,14 +8,14 @@ use code_sets::CodeSet;
 use rules::{ACTIVITY, CHOICE, ENTRY_COUNT, HEARTBEAT, LOOP, NO_CODE, SILENT};
 
 // What the rule for a node or a list finds: where it ends and the codes of leaves met so far, or that it is broken.
-#[derive(Drop)]
+#[derive(Clone, Copy)]
 pub enum Checked {
     Upto { next: usize, seen: CodeSet },
     Broken,
 }
 
 // What an entry tells by itself: all of its node, or that its list of children decides.
-#[derive(Drop)]
+#[derive(Clone, Copy)]
 pub enum Entry {
     Settled(Checked),
     Operator { children: u8, size: u8 },
