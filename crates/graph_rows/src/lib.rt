@@ -1,4 +1,6 @@
 // The graph of a log by value: a row of codes for each code, and the first and last codes.
+#![tactic(auto)]
+
 ghost use Rattle.graph_rows.specs.Edges.{Bare, Noted, Started, Ended};
 
 use code_sets::{Bits, CodeSet};

@@ -1,0 +1,17 @@
+use mathlib.Core.Path.{refl}
+use native.Mathlib.Omega.{arith}
+use Rattle.rules.specs.Calls.{code_count}
+use Rattle.graph_rows.proofs.EdgeLaws.{edge_more, edge_same}
+use Rattle.graph_rows.proofs.Graph.noted.Goals as goal
+
+pub returns-then-a-lt-NO_CODE : goal.returns-then-a-lt-NO_CODE
+returns-then-a-lt-NO_CODE c = let a = c.args in
+    record {
+      edges = edge_more code_count a.self.rows a.a a.b c.with-grown.result.bits (omega arith) (omega arith) c.with-grown.ensures;
+      starts = refl;
+      ends = refl;
+    }
+
+pub returns-else-a-lt-NO_CODE : goal.returns-else-a-lt-NO_CODE
+returns-else-a-lt-NO_CODE c = let a = c.args in
+    record { edges = edge_same code_count a.self.rows a.a a.b (omega arith); starts = refl; ends = refl }
