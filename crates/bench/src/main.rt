@@ -1,11 +1,13 @@
 // Runs the bench sheet on standard input, whose top says how its lines are read: prints each row as ok or wrong, and how many are.
-ghost use Rattle.std.specs.Prelude.{◌≤◌};
+#![tactic(auto)]
+
+ghost use Rattle.std.specs.Prelude.{◌≤◌, length};
 
 use rules::{Answer, BLOCK_SIZE, JUDGE_WORK, MINE_WORK, TREE_SIZE, Verdict};
 
 // What is lent: bytes of the input, events of the episode, bytes of the block to write, bytes and numbers of work. Then how many rows
 // were ok and wrong.
-#[derive(Drop)]
+#[derive(Clone, Copy)]
 struct State {
     input: usize,
     events: usize,
@@ -180,7 +182,7 @@ fn added(row: &[u8], input: &mut [u8], size: usize, episode: &[u8]) -> bool {
     if 9216 < input.len() {
         return false;
     }
-    bytes::copy(input, &mut before);
+    before[..input.len()].copy_from_slice(input);
     let r = add_to(input, size, episode);
     if let Answer::Refused { .. } = r {
         if !check::same(&before, input) {
@@ -436,9 +438,25 @@ fn set_up(line: &[u8], input: &mut [u8], episode: &mut [u8], mut state: State) -
     set_input(word, line, input, state)
 }
 
+// The first place from `from` on that has the byte, or the end.
+fn place_of(s: &[u8], from: usize, byte: u8) -> usize
+    requires { from ≤ length s.now }
+    ensures within { result ≤ length s.now }
+    ensures onward { from ≤ result }
+{
+    let mut i = from;
+    while i < s.len() {
+        if s[i] == byte {
+            return i;
+        }
+        i += 1;
+    }
+    i
+}
+
 // The call of a row `NAME: CALL`; nothing of a line with no colon.
 fn call_of(line: &[u8]) -> &[u8] {
-    let colon = bytes::scan::find(line, 0, line.len(), b':');
+    let colon = place_of(line, 0, b':');
     rest(rest(line, colon), 2)
 }
 
@@ -473,7 +491,7 @@ fn run(sheet: &[u8], input: &mut [u8], episode: &mut [u8]) -> State {
     };
     let mut at: usize = 0;
     while at < sheet.len() {
-        let end = bytes::scan::find(sheet, at, sheet.len(), b'\n');
+        let end = place_of(sheet, at, b'\n');
         state = each_line(&sheet[at..end], input, episode, state);
         at = end + 1;
     }

@@ -1,4 +1,4 @@
-// The calls for a caller in C: each answers one number, the value or a refusal's number and place (specs/Packed).
+// The calls for a caller in C, who finds them in `gateway_c`: each answers one number, the value or a refusal's number and place (specs/Packed).
 ghost use Rattle.std.specs.Prelude.{◌≡◌, ◌+◌, ◌*◌, ◌%◌};
 ghost use Rattle.rules.specs.Calls.{reading, checking};
 ghost use Rattle.gateway.specs.Packed.{packed, packed_verdict, AddPacked, MinePacked, JudgePacked};
@@ -31,40 +31,35 @@ fn pack_verdict(verdict: Verdict) -> u64
 }
 
 // Reading the record at a place of a log block: the place of the next. The record's codes are the bytes from at + 1 up to it.
-#[unsafe(no_mangle)]
-pub extern "C" fn arrabolzu_read(block: &[u8], at: usize) -> u64
+pub fn arrabolzu_read(block: &[u8], at: usize) -> u64
     ensures { result ≡ packed (reading 1 block.now at) }
 {
     pack(log_records::read(block, at))
 }
 
 // Adding an episode to a log block: the new count.
-#[unsafe(no_mangle)]
-pub extern "C" fn arrabolzu_add(block: &mut [u8], episode: &[u8]) -> u64
+pub fn arrabolzu_add(block: &mut [u8], episode: &[u8]) -> u64
     ensures { AddPacked block.old episode.now result block.new }
 {
     pack(log_adding::add(block, episode))
 }
 
 // Mining a log: the number of nodes, and the tree in the first 512 bytes of `out`.
-#[unsafe(no_mangle)]
-pub extern "C" fn arrabolzu_mine(log: &[u8], out: &mut [u8], work: &mut [u8]) -> u64
+pub fn arrabolzu_mine(log: &[u8], out: &mut [u8], work: &mut [u8]) -> u64
     ensures { MinePacked log.now out.old work.old result out.new work.new }
 {
     pack(mine_call::mine(log, out, work))
 }
 
 // Checking a tree block: the number of nodes.
-#[unsafe(no_mangle)]
-pub extern "C" fn arrabolzu_check(tree: &[u8]) -> u64
+pub fn arrabolzu_check(tree: &[u8]) -> u64
     ensures { result ≡ packed (checking tree.now) }
 {
     pack(tree_check::check(tree))
 }
 
 // Judging an episode against a tree: 1 where it fits, 0 where it does not.
-#[unsafe(no_mangle)]
-pub extern "C" fn arrabolzu_judge(tree: &[u8], episode: &[u8], work: &mut [u64]) -> u64
+pub fn arrabolzu_judge(tree: &[u8], episode: &[u8], work: &mut [u64]) -> u64
     ensures { JudgePacked tree.now episode.now work.old result work.new }
 {
     pack_verdict(judge_call::judge(tree, episode, work))

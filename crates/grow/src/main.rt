@@ -1,4 +1,6 @@
 // Reads a log on standard input and writes the block of its tree; the line of a refusal goes to standard error.
+#![tactic(auto)]
+
 use rules::{Answer, MINE_WORK, TREE_SIZE};
 
 fn refuse(number: u8, place: usize) {

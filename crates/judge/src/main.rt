@@ -1,4 +1,6 @@
 // Reads a tree block and then a log on standard input and prints a verdict for each episode, or the line of a refusal.
+#![tactic(auto)]
+
 fn main() {
     // A tree block, and one byte more than the longest log.
     let mut input = [0u8; 8705];

@@ -1,4 +1,6 @@
 // Reads a log on standard input and prints the listing of its tree, or the line of a refusal.
+#![tactic(auto)]
+
 fn main() {
     // One byte more than the longest log.
     let mut log = [0u8; 8193];
