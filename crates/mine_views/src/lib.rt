@@ -1,4 +1,6 @@
 // Sublogs as views of the whole log: nothing of the log is copied.
+#![tactic(auto)]
+
 ghost use Rattle.std.specs.Prelude.{◌≡◌};
 ghost use Rattle.rules.specs.Mining.{Log};
 ghost use Rattle.rules.specs.TreeBlock.{op_of};
