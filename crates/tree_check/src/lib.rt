@@ -1,4 +1,6 @@
 // Tree blocks: the check of a tree, one rule for a node and one for a list.
+#![tactic(auto)]
+
 ghost use Rattle.std.specs.Prelude.{◌≡◌, ◌+◌, ◌≤◌, ◌<◌, length};
 ghost use Rattle.rules.specs.Calls.{entry_count, formed, checking};
 ghost use Rattle.tree_check.specs.Checks.{ended_of, NodeSays, ListSays, whole_block};
