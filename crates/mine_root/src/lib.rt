@@ -1,4 +1,6 @@
 // The view of the whole log: the codes that occur, and whether the empty episode does.
+#![tactic(auto)]
+
 ghost use Rattle.std.specs.Prelude.{◌≡◌, not, ◌||◌, ◌&&◌, [], ◌∷◌, ℕ, eqb, ltb};
 ghost use Rattle.rules.specs.Words.{each, mem};
 ghost use Rattle.rules.specs.Heartbeats.{heartbeat, without_heartbeats};
