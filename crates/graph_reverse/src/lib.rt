@@ -1,4 +1,6 @@
 // Every edge of a table the other way.
+#![tactic(auto)]
+
 ghost use Rattle.std.specs.Prelude.{◌≡◌, ◌||◌, ◌&&◌, ℕ, ◌<◌, eqb, length};
 ghost use Rattle.rules.specs.Calls.{code_count};
 ghost use Rattle.code_sets.specs.Bits.{has};
