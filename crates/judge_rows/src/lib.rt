@@ -1,4 +1,6 @@
 // Rows of places: row i of a table has bit j set where what stands between the places i and j of an episode is right.
+#![tactic(auto)]
+
 ghost use Rattle.std.specs.Prelude.{◌≡◌, ◌&&◌, ℕ, ◌≤◌, ◌<◌, length};
 ghost use Rattle.rules.specs.Calls.{entry_count};
 ghost use Rattle.code_sets.specs.Bits.{has};
