@@ -1,4 +1,6 @@
 // Who reaches whom, by tables of rows by value.
+#![tactic(auto)]
+
 ghost use Rattle.std.specs.Prelude.{◌≡◌, ◌||◌, ◌&&◌, ℕ, ◌<◌};
 ghost use Rattle.rules.specs.Words.{from};
 ghost use Rattle.rules.specs.Mining.{through};
