@@ -1,4 +1,6 @@
 // What one record's codes add to a graph.
+#![tactic(auto)]
+
 ghost use Rattle.std.specs.Prelude.{◌≡◌, true, [], ◌∷◌, ℕ, ◌<◌};
 ghost use Rattle.rules.specs.Calls.{code_count};
 ghost use Rattle.code_sets.specs.Bits.{has};
