@@ -1,4 +1,6 @@
 // Some sets of codes in order, as the parts of a cut.
+#![tactic(auto)]
+
 ghost use Rattle.std.specs.Prelude.{◌≡◌, [], ◌∷◌, ◌++◌, not, ◌&&◌, ℕ, ◌+◌, ◌≤◌, ◌<◌, take, drop};
 ghost use Rattle.rules.specs.Words.{any};
 ghost use Rattle.rules.specs.Calls.{code_count};
