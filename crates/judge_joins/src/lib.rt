@@ -1,4 +1,6 @@
 // Tables of rows joined: one after the other, both at once, either, and a loop.
+#![tactic(auto)]
+
 ghost use Rattle.std.specs.Prelude.{◌≡◌, ◌&&◌, ◌||◌, ℕ, ◌≤◌, ◌<◌, length};
 ghost use Rattle.rules.specs.TreeBlock.{op_of};
 ghost use Rattle.code_sets.specs.Bits.{has};
