@@ -1,1 +1,3 @@
+#![tactic(auto)]
+
 // No code: what a table of rows means in the language of a tree.
