@@ -16,7 +16,7 @@ fn main() {
     println!("cargo:rerun-if-changed={}", archive.display());
     if !archive.exists() {
         panic!(
-            "no {}: run `rt staticlib gateway` at the repository's root, or name another by GATEWAY_ARCHIVE",
+            "no {}: run `c/archive` at the repository's root, or name another by GATEWAY_ARCHIVE",
             archive.display()
         );
     }
