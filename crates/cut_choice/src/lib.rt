@@ -1,4 +1,6 @@
 // Choice: the connected components of a graph.
+#![tactic(auto)]
+
 ghost use Rattle.std.specs.Prelude.{◌≡◌, ◌≤◌};
 ghost use Rattle.rules.specs.Mining.{choice_parts};
 ghost use Rattle.rules.specs.Calls.{code_count};
