@@ -1,4 +1,6 @@
 // What the entries of a tree block tell: the operator of a node, the size of a tree, the codes of its leaves.
+#![tactic(auto)]
+
 ghost use Rattle.std.specs.Prelude.{◌≡◌, ℕ, ◌+◌, ◌≤◌, ◌<◌, length};
 ghost use Rattle.rules.specs.TreeBlock.{operator_of, op_of, kind_at, size_at};
 ghost use Rattle.rules.specs.Calls.{entry_count};
