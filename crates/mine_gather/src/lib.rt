@@ -1,5 +1,7 @@
 // The places of a log's distinct episodes, gathered in lent work: the list at the front, behind it a table of hints that tell which listed place to compare with.
 // A hint may be wrong: what it leads to is compared. So nothing depends on the number that finds a slot, and an episode listed twice changes no set.
+#![tactic(auto)]
+
 ghost use Rattle.std.specs.Prelude.{◌≡◌, true, [], ◌∷◌, ◌+◌, ◌≤◌, ◌<◌, length, get_or};
 ghost use Rattle.std.proofs.lemmas.List.Edits.{sets};
 ghost use Rattle.rules.specs.Words.{part};

@@ -1,0 +1,12 @@
+use mathlib.Core.Path.{◌≡◌}
+use mathlib.Core.Bool.{true}
+use Prim.Native.Nat.{◌-◌}
+use lib.ListN.{length, drop}
+use Rattle.mine_places.specs.Places.{codes_of}
+use Rattle.mine_gather.proofs.same_codes.Given as goal
+
+abbrev pub invariant-loop-i : goal.invariant-loop-i
+invariant-loop-i l = l.same ≡ true → codes_of l.w (drop l.i l.a) ≡ codes_of l.w (drop l.i l.b) → codes_of l.w l.a ≡ codes_of l.w l.b
+
+abbrev pub decreases-loop-i : goal.decreases-loop-i
+decreases-loop-i l = length l.a - l.i
