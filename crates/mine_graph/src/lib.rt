@@ -1,4 +1,6 @@
 // The graph of a view's sublog: one pass over the places of a list, which hands each record's events on as a part of the log.
+#![tactic(auto)]
+
 ghost use Rattle.std.specs.Prelude.{◌≡◌, true, ◌&&◌, [], ◌∷◌, ℕ, length};
 ghost use Rattle.rules.specs.Calls.{code_count};
 ghost use Rattle.code_sets.specs.Bits.{has, listed};
