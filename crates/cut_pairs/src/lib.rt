@@ -1,4 +1,6 @@
 // Pairs among parts: the i-th of some becomes one with the i-th of others.
+#![tactic(auto)]
+
 ghost use Rattle.std.specs.Prelude.{◌≡◌, not, ◌&&◌, ◌≤◌, ◌<◌, length};
 ghost use Rattle.std.specs.Int.Bits.{bit_or};
 ghost use Rattle.rules.specs.Mining.{head_of};
