@@ -1,4 +1,6 @@
 // Which parts of a cut some sub-episode of a view has no event of: the views of those parts have the empty episode.
+#![tactic(auto)]
+
 ghost use Rattle.std.specs.Prelude.{◌≡◌, ◌||◌, ◌&&◌, [], ◌∷◌, ℕ, ◌≤◌, ◌<◌, ltb, length};
 ghost use Rattle.rules.specs.Calls.{code_count};
 ghost use Rattle.rules.specs.TreeBlock.{op_of};
