@@ -2,6 +2,7 @@
 use Prim.Native.Nat.{ℕ, ◌+◌}
 use native.Mathlib.Omega.{arith}
 use mathlib.Core.List.{List, [], ◌∷◌}
+use mathlib.Core.Logic.{inl, inr}
 use mathlib.Core.Path.{◌≡◌, refl, sym, ap, ◌∙◌, subst}
 use mathlib.Core.Bool.{Bool, true, false}
 use lib.Dec.{eqb}
@@ -27,6 +28,19 @@ use Rattle.judge_nodes.specs.Children.{against, Ready, ListMeans, LoopMeans}
 use Rattle.judge_nodes.specs.Nodes.{NodeMeans}
 use Rattle.judge_subtrees.proofs.LabelLaws.{labelled_codes}
 use Rattle.judge_subtrees.proofs.EntryLaws.{children_formed}
+
+-- which operators are left
+pub no_parallel : (p : Operator) → (p ≡ Parallel → ⊥) → OneOf (0 ∷ 1 ∷ 3 ∷ []) (tag_of the_type p)
+no_parallel Choice h = inl refl
+no_parallel Sequence h = inr (inl refl)
+no_parallel Parallel h = absurd (h refl)
+no_parallel Loop h = inr (inr refl)
+
+pub no_loop : (p : Operator) → (p ≡ Loop → ⊥) → OneOf (0 ∷ 1 ∷ 2 ∷ []) (tag_of the_type p)
+no_loop Choice h = inl refl
+no_loop Sequence h = inr (inl refl)
+no_loop Parallel h = inr (inr refl)
+no_loop Loop h = absurd (h refl)
 
 -- any operator but a parallel
 pub against_all : (p : Operator) → OneOf (0 ∷ 1 ∷ 3 ∷ []) (tag_of the_type p) → (S : ℕ → Bool) (c : ℕ) → S c ≡ against (op_of p) S c

@@ -1,5 +1,7 @@
 // The rows of one node, by its kind. Row i of entry v, `work[v * 64 + i]`, has bit j set where the events of v's codes
 // between the places i and j of the episode are an episode of the tree at v.
+#![tactic(auto)]
+
 ghost use Rattle.std.specs.Prelude.{◌≡◌, ◌&&◌, ℕ, ◌+◌, ◌≤◌, ◌<◌, length};
 ghost use Rattle.rules.specs.TreeBlock.{op_of, size_at};
 ghost use Rattle.rules.specs.Calls.{entry_count};
