@@ -1,4 +1,6 @@
 // Parallel: parts made of the components of the codes that are not joined both ways, each with a start and an end.
+#![tactic(auto)]
+
 ghost use Rattle.std.specs.Prelude.{◌≡◌, List, ◌&&◌, ℕ, ◌≤◌, length, take};
 ghost use Rattle.rules.specs.Words.{Has, keep};
 ghost use Rattle.rules.specs.Mining.{with_rest, parallel_parts};

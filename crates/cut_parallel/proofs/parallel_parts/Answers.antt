@@ -12,42 +12,29 @@ use Rattle.cut_components.specs.declared.Bond.TheVariants.{NotBoth}
 use Rattle.cut_components.proofs.BondLaws.{back_is}
 use Rattle.cut_parallel.proofs.MakingLaws.{made_inside, parallel_right}
 use borrow.Author.Rules.{rules}
-use Rattle.cut_parallel.proofs.parallel_parts.Statement.{statement}
-use Rattle.cut_parallel.proofs.parallel_parts.Tie as tie
+use Rattle.cut_parallel.proofs.parallel_parts.Goals as goal
 
-components-requires : tie.Need-components-requires
-components-requires c κs = search rules
-
-made-parts-requires : tie.Need-made-parts-requires
-made-parts-requires c κs = search rules
-
-with-rest-requires : tie.Need-with-rest-requires
+pub with_rest-requires : goal.with_rest-requires
 unfolding lists_of
-with-rest-requires c κs =
-    let st = c.before.before.before in
+with_rest-requires c = let st = c.before in
     let g = st.args.g in
-    let gs = c.before.components in
-    let made = c.made-parts in (
+    let gs = c.components-components in
+    let made = c.made_parts-made in (
       omega (arith, gs.ensures.few, made.ensures.0),
-      λ p i. made_inside code_count st.args.keep.bits (edge_of g.rows) g.starts.bits g.ends.bits (search (rules, st.well-formed.0.1.1.1)) (search (rules, st.well-formed.0.1.1.1)) (sets_of gs.result)
+      λ p i. made_inside code_count st.args.keep.bits (edge_of g.rows) g.starts.bits g.ends.bits (search (rules, st.well_formed.0.1.1.1)) (search (rules, st.well_formed.0.1.1.1)) (sets_of gs.result)
           (gs.ensures.parts ∙ ap (λ (r : Rel). components r (listed code_count st.args.keep.bits)) (back_is NotBoth g.rows st.args.cols st.requires)) p
           (subst (λ (sets : List ℕ). Has p (each (listed code_count) sets)) made.ensures.1 i),
     )
 
-returns : tie.Need-returns
+pub returns : goal.returns
 unfolding meant lists_of
-returns c =
-    let st = c.before.before.before.before in
+returns c = let st = c.before in
     let g = st.args.g in
-    let gs = c.before.before.components in
-    let made = c.before.made-parts in
+    let gs = c.components-components in
+    let made = c.made_parts-made in
     let rest = c.with_rest in (
       omega (arith, gs.ensures.few, made.ensures.0, rest.ensures.0),
-      parallel_right code_count st.args.keep.bits (edge_of g.rows) g.starts.bits g.ends.bits (search (rules, st.well-formed.0.1.1.1)) (search (rules, st.well-formed.0.1.1.1)) (sets_of gs.result)
+      parallel_right code_count st.args.keep.bits (edge_of g.rows) g.starts.bits g.ends.bits (search (rules, st.well_formed.0.1.1.1)) (search (rules, st.well_formed.0.1.1.1)) (sets_of gs.result)
           (gs.ensures.parts ∙ ap (λ (r : Rel). components r (listed code_count st.args.keep.bits)) (back_is NotBoth g.rows st.args.cols st.requires))
           (lists_of made.result) (lists_of rest.result) (ap (each (listed code_count)) made.ensures.1) rest.ensures.1,
     )
-
-pub parallel_parts_spec : {M : Type 1} → statement M
-parallel_parts_spec =
-    tie.close (tie.spec components-requires made-parts-requires with-rest-requires returns)
