@@ -1,4 +1,6 @@
 // Loop: the body, then the redo parts.
+#![tactic(auto)]
+
 ghost use Rattle.std.specs.Prelude.{◌≡◌, not, ◌≤◌};
 ghost use Rattle.rules.specs.Words.{keep};
 ghost use Rattle.rules.specs.Calls.{code_count};
