@@ -1,4 +1,6 @@
 // Judging an episode against a tree: the refusals in their order, and the verdict.
+#![tactic(auto)]
+
 ghost use Rattle.std.specs.Prelude.{◌≡◌, List, ℕ, ◌≤◌, length};
 ghost use Rattle.rules.specs.Heartbeats.{without_heartbeats};
 ghost use Rattle.rules.specs.Calls.{cleared, judging, JudgeSays};
