@@ -1,4 +1,6 @@
 // The first cut of a graph: choice, sequence, parallel or loop.
+#![tactic(auto)]
+
 ghost use Rattle.graph_reverse.specs.Reverse.{Back};
 ghost use Rattle.cut_first.specs.Cuts.{WithoutLoop, CutOf};
 
