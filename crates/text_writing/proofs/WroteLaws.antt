@@ -7,7 +7,7 @@ use native.Mathlib.Omega.{arith}
 use lib.ListN.{length, take, drop, set, length-append, length-drop, length-set}
 use lib.Seq.{take-length, take_all, drop-length}
 use Rattle.rules.specs.Words.{overlaid}
-use Rattle.rules.proofs.Overlay.{overlaid_nothing, overlaid_then, overlaid_tail, length_overlaid, set_overlaid}
+use Rattle.rules.proofs.Overlay.{overlaid_nothing, overlaid_then, overlaid_tail, overlaid_part, length_overlaid, set_overlaid}
 use Rattle.text_writing.specs.Writing.{Wrote}
 
 pub wrote_nothing : (old : List ℕ) (at : ℕ) → Wrote 0 old at [] old at
@@ -54,3 +54,11 @@ copied b s d at r room e f =
       text = is;
       kept = ap length is ∙ length_overlaid b at s room;
     }
+
+-- the part of b from a place on, as long as s, was lent, and s was copied over it
+pub copied_over : (b s d : List ℕ) (at n : ℕ) → at + length s ≤ length b → n ≡ length s → d ≡ s →
+    Wrote (length s) b at s (take at b ++ (d ++ drop n (drop at b))) (at + length s)
+copied_over b s d at n room e f =
+    let is : take at b ++ (d ++ drop n (drop at b)) ≡ overlaid b at s =
+    ap (λ (t : List ℕ). take at b ++ (t ++ drop n (drop at b))) f ∙ overlaid_part b at n s (sym e) in
+    record { next = refl; most = omega arith; text = is; kept = ap length is ∙ length_overlaid b at s room }

@@ -1,4 +1,6 @@
 // Text and numbers written into lent bytes from a place on: the place after them.
+#![tactic(auto)]
+
 ghost use Rattle.std.specs.Prelude.{◌+◌, ◌≤◌, ◌<◌, [], ◌∷◌, length};
 ghost use Rattle.rules.specs.Listing.{decimal};
 ghost use Rattle.text_writing.specs.Writing.{Wrote};
@@ -15,8 +17,9 @@ pub fn text(out: &mut [u8], at: usize, s: &[u8]) -> usize
     requires { at + length s.now ≤ length out.old }
     ensures { Wrote (length s.now) out.old at s.now out.new result }
 {
-    let n = bytes::copy(s, &mut out[at..]);
-    at + n
+    let end = at + s.len();
+    out[at..end].copy_from_slice(s);
+    end
 }
 
 // A number of at most `digits` digits.
