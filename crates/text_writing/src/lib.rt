@@ -17,9 +17,9 @@ pub fn text(out: &mut [u8], at: usize, s: &[u8]) -> usize
     requires { at + length s.now ≤ length out.old }
     ensures { Wrote (length s.now) out.old at s.now out.new result }
 {
-    let end = at + s.len();
-    out[at..end].copy_from_slice(s);
-    end
+    let n = s.len();
+    out[at..at + n].copy_from_slice(s);
+    at + n
 }
 
 // A number of at most `digits` digits.
