@@ -1,4 +1,6 @@
 // The listing of a tree's block.
+#![tactic(auto)]
+
 ghost use Rattle.std.specs.Prelude.{◌≡◌, ◌+◌, ◌*◌, ◌≤◌, ◌<◌, length};
 ghost use Rattle.rules.specs.Listing.{kind_name, entry_numbers, entry_line, entry_lines, listing};
 ghost use Rattle.rules.specs.Calls.{entry_count};
