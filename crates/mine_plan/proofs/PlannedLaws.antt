@@ -10,7 +10,7 @@ use lib.ListN.{length, take, get_or}
 use lib.Seq.{get_or-take, length-take-le}
 use lib.Count.{count_trailing_zeros}
 use Rattle.rules.specs.declared.Operator.{Operator}
-use Rattle.rules.specs.Words.{pick, keep, each, from}
+use Rattle.rules.specs.Words.{pick, each, from}
 use Rattle.rules.specs.Mining as mining
 use Rattle.rules.specs.Mining.{Log, Rel, single, flower, graph, shape, head_of, cut_or, occurring}
 use Rattle.rules.specs.TreeBlock.{op_of}

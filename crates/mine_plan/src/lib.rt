@@ -1,4 +1,6 @@
 // What is made of a view's sublog: silent, a leaf, a flower, or a cut with its parts.
+#![tactic(auto)]
+
 ghost use Rattle.std.specs.Prelude.{◌≡◌, ◌≤◌};
 ghost use Rattle.rules.specs.Calls.{code_count};
 ghost use Rattle.code_sets.specs.Bits.{listed};
