@@ -1,4 +1,6 @@
 // The line of a refusal and the line of a verdict.
+#![tactic(auto)]
+
 ghost use Rattle.std.specs.Prelude.{◌+◌, ◌≤◌, length};
 ghost use Rattle.rules.specs.Listing.{refusal_line, verdict_line};
 ghost use Rattle.text_writing.specs.Writing.{Wrote};
