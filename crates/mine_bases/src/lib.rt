@@ -1,4 +1,6 @@
 // Writing what has no cut into a tree's block: silent, a leaf, a flower.
+#![tactic(auto)]
+
 ghost use Rattle.std.specs.Prelude.{◌≡◌, [], ◌+◌, ◌≤◌, ◌<◌, length};
 ghost use Rattle.rules.specs.Words.{push};
 ghost use Rattle.rules.specs.Trees.{size};
