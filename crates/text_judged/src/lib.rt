@@ -1,4 +1,6 @@
 // The whole text that the judging program prints for a tree and a log, so that the program only moves bytes.
+#![tactic(auto)]
+
 ghost use Rattle.std.specs.Prelude.{◌≡◌, ◌≤◌, length, take, drop};
 ghost use Rattle.rules.specs.Printed.{judge_reading};
 ghost use Rattle.text_writing.specs.Writing.{Wrote};
