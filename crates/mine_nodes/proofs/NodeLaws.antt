@@ -9,7 +9,7 @@ use lib.Dec.{eqb}
 use lib.ListN.{length, get_or, take, drop, drop_of_length-le}
 use lib.Seq.{drop-cons, get_or-take, length-take-le}
 use Rattle.rules.specs.declared.Operator.{Operator}
-use Rattle.rules.specs.Words.{each, keep}
+use Rattle.rules.specs.Words.{each}
 use Rattle.rules.specs.Trees.{Op, Tree, Forest, node, size, sizes, children}
 use Rattle.rules.specs.Mining.{Log, cut, graph, shape, split, grow, mined, occurring, parts_of}
 use Rattle.rules.specs.TreeBlock.{op_of, kind_of, entry, entries, entries_all}

@@ -1,4 +1,6 @@
 // The tree of a view's sublog, written node by node.
+#![tactic(auto)]
+
 ghost use Rattle.rules.specs.Mining.{mined};
 ghost use Rattle.rules.specs.Calls.{code_count};
 ghost use Rattle.mine_places.specs.Places.{episodes_of, Listed};
