@@ -1,4 +1,6 @@
 // The lines of a bench sheet: words with one blank between two, of which a number or the name of a kind of node is a value.
+#![tactic(auto)]
+
 ghost use Rattle.std.specs.Prelude.{◌≡◌, ◌%◌};
 ghost use Rattle.std.proofs.lemmas.List.Edits.{sets};
 ghost use Rattle.bench_sheet.specs.Words.{kind_named, grown, number_of, values_of, listed};

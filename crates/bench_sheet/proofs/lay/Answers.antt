@@ -1,9 +1,7 @@
-use mathlib.Core.Path.{◌≡◌, sym, ◌∙◌}
+use mathlib.Core.Path.{sym, ◌∙◌}
 use Prim.Native.Nat.{◌-◌}
 use native.Mathlib.Omega.{arith}
-use lib.ListN.{length}
-use lib.Seq.{sets}
-use Rattle.bench_sheet.specs.Words.{values_of, bytes_from, listed}
+use Rattle.bench_sheet.specs.Words.{values_of, bytes_from}
 use Rattle.bench_sheet.proofs.WordLaws.{sets_out, lay_end, lay_on}
 use borrow.Author.Rules.{rules}
 use Rattle.bench_sheet.proofs.lay.Goals as goal

@@ -1,9 +1,8 @@
 use mathlib.Core.Path.{ap}
 use Prim.Native.Nat.{◌+◌}
-use mathlib.Core.Path.{◌≡◌, refl, sym, ◌∙◌}
-use Prim.Native.Nat.{◌≤◌, ◌-◌}
-use lib.ListN.{length, drop}
-use Rattle.bench_sheet.specs.Words.{number_from, number_of}
+use mathlib.Core.Path.{refl, sym, ◌∙◌}
+use lib.ListN.{drop}
+use Rattle.bench_sheet.specs.Words.{number_from}
 use Rattle.bench_sheet.proofs.WordLaws.{number_end, number_done, number_skip, number_grow, number_pass}
 use borrow.Author.Rules.{rules}
 use Rattle.bench_sheet.proofs.number.Goals as goal

@@ -1,11 +1,7 @@
-use mathlib.Core.Path.{ap}
-use Prim.Native.Nat.{◌+◌}
-use mathlib.Core.Path.{◌≡◌, refl, sym, ◌∙◌}
+use mathlib.Core.Path.{◌≡◌}
 use Prim.Native.Nat.{◌≤◌, ◌-◌}
 use lib.ListN.{length, drop}
 use Rattle.bench_sheet.specs.Words.{number_from, number_of}
-use Rattle.bench_sheet.proofs.WordLaws.{number_end, number_done, number_skip, number_grow, number_pass}
-use borrow.Author.Rules.{rules}
 use Rattle.bench_sheet.proofs.number.Given as goal
 
 abbrev pub invariant-loop-i : goal.invariant-loop-i

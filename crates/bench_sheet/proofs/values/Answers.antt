@@ -1,8 +1,4 @@
-use mathlib.Core.Path.{◌≡◌}
-use Prim.Native.Nat.{◌≤◌, ◌-◌, ◌+◌}
 use native.Mathlib.Omega.{arith}
-use lib.ListN.{length, drop}
-use Rattle.bench_sheet.specs.Words.{values_of}
 use Rattle.bench_sheet.proofs.WordLaws.{values_end, values_blank, values_on}
 use borrow.Author.Rules.{rules}
 use Rattle.bench_sheet.proofs.values.Goals as goal

@@ -1,10 +1,7 @@
 use mathlib.Core.Path.{◌≡◌}
 use Prim.Native.Nat.{◌≤◌, ◌-◌, ◌+◌}
-use native.Mathlib.Omega.{arith}
 use lib.ListN.{length, drop}
 use Rattle.bench_sheet.specs.Words.{values_of}
-use Rattle.bench_sheet.proofs.WordLaws.{values_end, values_blank, values_on}
-use borrow.Author.Rules.{rules}
 use Rattle.bench_sheet.proofs.values.Given as goal
 
 abbrev pub invariant-loop-i : goal.invariant-loop-i
