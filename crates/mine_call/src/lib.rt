@@ -1,4 +1,6 @@
 // Mining: from a log to the block of its tree.
+#![tactic(auto)]
+
 ghost use Rattle.std.specs.Prelude.{◌≡◌, ◌++◌, ◌≤◌, length, drop};
 ghost use Rattle.rules.specs.Words.{zeros, each};
 ghost use Rattle.rules.specs.Heartbeats.{without_heartbeats};
