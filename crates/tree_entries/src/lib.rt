@@ -1,4 +1,6 @@
 // What an entry of a tree block tells by itself.
+#![tactic(auto)]
+
 ghost use Rattle.std.specs.Prelude.{◌≡◌, ◌<◌, length};
 ghost use Rattle.rules.specs.TreeBlock.{silent_rule, leaf_rule};
 ghost use Rattle.rules.specs.Calls.{code_count, entry_count};

@@ -1,5 +1,4 @@
 use Rattle.tree_entries.proofs.EntryLaws.{entry_end, entry_zero, entry_silent, entry_leaf, entry_low, entry_high, entry_few, entry_operator}
-use borrow.Author.Rules.{rules}
 use Rattle.tree_entries.proofs.entry_at.Goals as goal
 
 pub returns-then-at-ge-ENTRY_COUNT : goal.returns-then-at-ge-ENTRY_COUNT

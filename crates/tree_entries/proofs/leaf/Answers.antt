@@ -1,6 +1,5 @@
 use mathlib.Core.Path.{sym, ◌∙◌}
 use Rattle.tree_entries.proofs.EntryLaws.{leaf_above, leaf_heartbeat, leaf_size, leaf_again, leaf_here}
-use borrow.Author.Rules.{rules}
 use Rattle.tree_entries.proofs.leaf.Goals as goal
 
 pub returns-then-argument-ge-NO_CODE : goal.returns-then-argument-ge-NO_CODE

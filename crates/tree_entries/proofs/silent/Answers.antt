@@ -1,5 +1,4 @@
 use Rattle.tree_entries.proofs.EntryLaws.{silent_argument, silent_size, silent_here}
-use borrow.Author.Rules.{rules}
 use Rattle.tree_entries.proofs.silent.Goals as goal
 
 pub returns-then-argument-ne0 : goal.returns-then-argument-ne0
