@@ -1,4 +1,6 @@
 // An episode without its heartbeats, copied: judging goes by the events alone.
+#![tactic(auto)]
+
 ghost use Rattle.std.specs.Prelude.{◌≤◌, length};
 ghost use Rattle.judge_events.specs.Copies.{Copies};
 

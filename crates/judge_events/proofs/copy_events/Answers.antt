@@ -1,7 +1,5 @@
-use Prim.Native.Nat.{◌-◌, ◌≤◌}
 use native.Mathlib.Omega.{arith}
-use lib.ListN.{length}
-use Rattle.judge_events.proofs.CopyLaws.{Copied, copied_none, copied_beat, copied_event, copied_all}
+use Rattle.judge_events.proofs.CopyLaws.{copied_none, copied_beat, copied_event, copied_all}
 use borrow.Author.Rules.{rules}
 use Rattle.judge_events.proofs.copy_events.Goals as goal
 

@@ -1,8 +1,6 @@
 use Prim.Native.Nat.{◌-◌, ◌≤◌}
-use native.Mathlib.Omega.{arith}
 use lib.ListN.{length}
-use Rattle.judge_events.proofs.CopyLaws.{Copied, copied_none, copied_beat, copied_event, copied_all}
-use borrow.Author.Rules.{rules}
+use Rattle.judge_events.proofs.CopyLaws.{Copied}
 use Rattle.judge_events.proofs.copy_events.Given as goal
 
 abbrev pub invariant-loop-i : goal.invariant-loop-i
