@@ -1,4 +1,6 @@
 // Writing an entry of a tree block.
+#![tactic(auto)]
+
 ghost use Rattle.std.specs.Prelude.{◌≡◌, ◌≤◌, ◌<◌, length};
 ghost use Rattle.rules.specs.TreeBlock.{op_of, kind_of};
 ghost use Rattle.rules.specs.Calls.{entry_count};

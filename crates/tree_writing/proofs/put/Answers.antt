@@ -1,7 +1,6 @@
 use native.Mathlib.Omega.{arith}
 use lib.ListN.{length-set}
 use Rattle.tree_writing.proofs.WritingLaws.{entry_stored}
-use borrow.Author.Rules.{rules}
 use Rattle.tree_writing.proofs.put.Goals as goal
 
 pub bounds-tree-base-2 : goal.bounds-tree-base-2
