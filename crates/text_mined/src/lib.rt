@@ -1,4 +1,6 @@
 // The whole text that the mining program prints for a log, so that the program only moves bytes.
+#![tactic(auto)]
+
 ghost use Rattle.std.specs.Prelude.{◌≡◌, ◌≤◌, length};
 ghost use Rattle.rules.specs.Printed.{mined_text};
 ghost use Rattle.text_writing.specs.Writing.{Wrote};
