@@ -1,4 +1,6 @@
 // Sets of codes, one bit a code.
+#![tactic(auto)]
+
 ghost use Rattle.std.specs.Prelude.{◌≡◌, ◌||◌, ◌&&◌, not, ℕ, ◌<◌, eqb, ltb};
 ghost use Rattle.rules.specs.Mining.{head_of};
 ghost use Rattle.rules.specs.Calls.{code_count};

@@ -1,4 +1,6 @@
 // The calls for a caller in C, who finds them in `gateway_c`: each answers one number, the value or a refusal's number and place (specs/Packed).
+#![tactic(auto)]
+
 ghost use Rattle.std.specs.Prelude.{◌≡◌, ◌+◌, ◌*◌, ◌%◌};
 ghost use Rattle.rules.specs.Calls.{reading, checking};
 ghost use Rattle.gateway.specs.Packed.{packed, packed_verdict, AddPacked, MinePacked, JudgePacked};

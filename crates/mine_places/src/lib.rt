@@ -1,4 +1,6 @@
 // A list of places in a log, two bytes each, the lower first. At each place stands the length byte of a record; `w` is the number of bytes of an event, 1 for now.
+#![tactic(auto)]
+
 ghost use Rattle.std.specs.Prelude.{◌≡◌, ◌+◌, ◌<◌, ◌≤◌, length};
 ghost use Rattle.mine_places.specs.Places.{place_at, events_of, Recorded};
 

@@ -1,4 +1,5 @@
 // What the calls answer, and the sizes of a log, of a tree and of work. What they mean is said in specs/.
+#![tactic(auto)]
 
 // The number that a call gives, or a refusal by its number and place in the table of refusals.
 #[derive(Clone, Copy)]

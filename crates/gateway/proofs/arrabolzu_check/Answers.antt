@@ -1,6 +1,5 @@
 use mathlib.Core.Path.{ap, ◌∙◌}
 use Rattle.gateway.specs.Packed.{packed}
-use borrow.Author.Rules.{rules}
 use Rattle.gateway.proofs.arrabolzu_check.Goals as goal
 
 pub returns : goal.returns

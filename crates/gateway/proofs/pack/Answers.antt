@@ -1,5 +1,4 @@
 use Rattle.gateway.proofs.Packing.{packed_gives, packed_refused}
-use borrow.Author.Rules.{rules}
 use Rattle.gateway.proofs.pack.Goals as goal
 
 pub returns-in-Gives : goal.returns-in-Gives

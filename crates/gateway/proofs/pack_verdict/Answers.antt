@@ -1,5 +1,4 @@
 use Rattle.gateway.proofs.Packing.{packed_dismissed}
-use borrow.Author.Rules.{rules}
 use Rattle.gateway.proofs.pack_verdict.Goals as goal
 
 pub returns-in-Refused : goal.returns-in-Refused

@@ -3,7 +3,6 @@ use Prim.Native.Nat.{◌+◌, ◌*◌}
 use native.Mathlib.Nat.{add-sub_cancel_left}
 use lib.ListN.{get_or}
 use Rattle.rules.specs.Words.{part}
-use borrow.Author.Rules.{rules}
 use Rattle.mine_places.proofs.events_at.Goals as goal
 
 pub returns : goal.returns

@@ -1,7 +1,6 @@
 use Prim.Native.Nat.{◌+◌}
 use native.Mathlib.Omega.{arith}
 use mir.Facts.{Fits-widen}
-use borrow.Author.Rules.{rules}
 use Rattle.mine_places.proofs.place_at.Goals as goal
 
 pub overflow_cast-low : goal.overflow_cast-low

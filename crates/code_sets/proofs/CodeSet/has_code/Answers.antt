@@ -2,7 +2,6 @@ use mathlib.Core.Path.{ap}
 use Prim.Native.Nat.{ℕ}
 use native.Mathlib.Nat.{mod-eq_of_lt}
 use Rattle.code_sets.specs.Bits.{has}
-use borrow.Author.Rules.{rules}
 use Rattle.code_sets.proofs.CodeSet.has_code.Goals as goal
 
 pub returns : goal.returns

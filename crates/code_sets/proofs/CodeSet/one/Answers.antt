@@ -3,7 +3,6 @@ use mathlib.Core.Bool.{Bool, ◌||◌, ◌&&◌}
 use lib.Dec.{eqb, ltb}
 use Rattle.rules.specs.Calls.{code_count}
 use Rattle.code_sets.proofs.BitLaws.{has_zero}
-use borrow.Author.Rules.{rules}
 use Rattle.code_sets.proofs.CodeSet.one.Goals as goal
 
 pub returns : goal.returns
