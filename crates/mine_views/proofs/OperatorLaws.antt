@@ -27,6 +27,11 @@ module _ (part : ℕ) (small : part < 2 ^ code_count) (l : Log) (s : Sight) (bar
         bare = f i;
       }
 
+  -- the same of an operator that is known to be a loop
+  pub loop_known : (o : Operator) → o ≡ Loop → bare ≡ (part_sight (op_of o) (listed code_count part) l s).bare → (b : Set) → ((c : ℕ) → b c ≡ (s.breaks c || (s.kept c && not (has part c)))) →
+      ◌≡◌ {A = Sight} (record { kept = has part; breaks = b; bare = bare }) (part_sight (op_of o) (listed code_count part) l s)
+  loop_known o e = rw e loop_sight
+
   -- the other cuts break nothing more
   pub plain_sight : (o : Operator) → (o ≡ Loop → ⊥) → bare ≡ (part_sight (op_of o) (listed code_count part) l s).bare →
       ◌≡◌ {A = Sight} (record { kept = has part; breaks = s.breaks; bare = bare }) (part_sight (op_of o) (listed code_count part) l s)

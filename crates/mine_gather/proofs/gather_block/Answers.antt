@@ -17,48 +17,43 @@ use Rattle.mine_gather.proofs.GatherLaws.{gather_start, gather_next}
 use Rattle.mine_gather.proofs.gather_block.Goals as goal
 
 pub loop-records-init : goal.loop-records-init
-loop-records-init c = let start = c.before in
-    let a = start.args in
+loop-records-init c = let a = c.args in
     let whole = ap (part a.log.now a.base) (add-sub_cancel_left a.base 512) in
-    let sound = start.requires.3 in
+    let sound = c.requires.3 in
     let first = ap (λ (b : List ℕ). get_or b 0 0) whole in
-    (whole, rw first sound, omega (arith, first, episodes_left a.w (part a.log.now a.base 512) 1 _ start.requires.4.some sound, c.type_inv.block 0), rw first (gather_start a.w a.log.now _ a.n a.work.now start.requires.4.all))
+    (whole, rw first sound, omega (arith, first, episodes_left a.w (part a.log.now a.base 512) 1 _ c.requires.4.some sound, c.type_inv.block 0), rw first (gather_start a.w a.log.now _ a.n a.work.now c.requires.4.all))
 
 pub overflow_add-base : goal.overflow_add-base
-overflow_add-base c = let start = c.before in
-    let a = start.args in
+overflow_add-base c = let a = c.args in
     let l = c.loop-records in
-    omega (arith, start.requires.1, start.requires.2, block_place a.w start.requires.4.some start.requires.4.few a.log.now a.base start.requires.1 l.at l.records l.invariant.1 (omega arith))
+    omega (arith, c.requires.1, c.requires.2, block_place a.w c.requires.4.some c.requires.4.few a.log.now a.base c.requires.1 l.at l.records l.invariant.1 (omega arith))
 
 pub list_place-m-requires : goal.list_place-m-requires
-list_place-m-requires c = let start = c.before in
-    let a = start.args in
+list_place-m-requires c = let a = c.args in
     let l = c.loop-records in
     let sound = l.invariant.1 in
     let g = l.invariant.3 in (
-      omega (arith, l.invariant.2, g.few, start.requires.0, episodes_left a.w (part a.log.now a.base 512) l.at l.records start.requires.4.some sound),
-      omega (arith, start.requires.1, start.requires.2, block_place a.w start.requires.4.some start.requires.4.few a.log.now a.base start.requires.1 l.at l.records l.invariant.1 (omega arith)),
-      block_recorded a.w start.requires.4.some start.requires.4.few a.log.now a.base start.requires.1 l.at l.records sound (omega arith),
-      record { some = start.requires.4.some; few = start.requires.4.few; room = omega (arith, g.size, start.requires.4.room); all = g.all },
+      omega (arith, l.invariant.2, g.few, c.requires.0, episodes_left a.w (part a.log.now a.base 512) l.at l.records c.requires.4.some sound),
+      omega (arith, c.requires.1, c.requires.2, block_place a.w c.requires.4.some c.requires.4.few a.log.now a.base c.requires.1 l.at l.records l.invariant.1 (omega arith)),
+      block_recorded a.w c.requires.4.some c.requires.4.few a.log.now a.base c.requires.1 l.at l.records sound (omega arith),
+      record { some = c.requires.4.some; few = c.requires.4.few; room = omega (arith, g.size, c.requires.4.room); all = g.all },
     )
 
 pub next_record-at-requires : goal.next_record-at-requires
-next_record-at-requires c = let start = c.before in
-    let a = start.args in
+next_record-at-requires c = let a = c.args in
     let l = c.loop-records in (
-      ap length l.invariant.0 ∙ length_part a.log.now a.base 512 start.requires.1,
-      start.requires.4.few,
+      ap length l.invariant.0 ∙ length_part a.log.now a.base 512 c.requires.1,
+      c.requires.4.few,
       subst (λ (b : List ℕ). Given (frame_at a.w b l.at)) (sym l.invariant.0) (met_frame a.w top_code (part a.log.now a.base 512) l.at l.records l.invariant.1 (omega arith)),
     )
 
 pub loop-records-preserved : goal.loop-records-preserved
-loop-records-preserved c = let start = c.before in
-    let a = start.args in
+loop-records-preserved c = let a = c.args in
     let l = c.loop-records in
     let b = part a.log.now a.base 512 in
     let some : 0 < l.records = omega arith in
     let call = c.next_record-at.ensures ∙ ap (λ (s : List ℕ). frame_at a.w s l.at) l.invariant.0 in
-    let here = block_next a.w start.requires.4.some start.requires.4.few a.log.now a.base start.requires.1 l.at l.records l.invariant.1 some _ call in (
+    let here = block_next a.w c.requires.4.some c.requires.4.few a.log.now a.base c.requires.1 l.at l.records l.invariant.1 some _ call in (
       l.invariant.0,
       met_next a.w top_code b l.at l.records l.invariant.1 some _ call,
       l.invariant.2,
@@ -66,8 +61,7 @@ loop-records-preserved c = let start = c.before in
     )
 
 pub returns : goal.returns
-returns c = let start = c.before in
-    let a = start.args in
+returns c = let a = c.args in
     let l = c.loop-records in
     let b = part a.log.now a.base 512 in
     let g = l.invariant.3 in

@@ -10,8 +10,7 @@ use Rattle.mine_gather.proofs.GatherLaws.{gather_known, gather_put, gather_hinte
 use Rattle.mine_gather.proofs.list_place.Goals as goal
 
 pub look_up-found-requires : goal.look_up-found-requires
-look_up-found-requires c = let start = c.before in
-    (omega arith, subst (Events start.args.w) (sym c.events_at.ensures) start.requires.2.events, start.requires.3)
+look_up-found-requires c = (omega arith, subst (Events c.args.w) (sym c.events_at.ensures) c.requires.2.events, c.requires.3)
 
 pub overflow_mul-slot : goal.overflow_mul-slot
 overflow_mul-slot c = let slot = room_slot _ _ c.in-Room.is _ _ c.look_up-found.ensures in omega arith
@@ -20,23 +19,19 @@ pub overflow_add-slot : goal.overflow_add-slot
 overflow_add-slot c = let slot = room_slot _ _ c.in-Room.is _ _ c.look_up-found.ensures in omega arith
 
 pub put-requires-in-Room : goal.put-requires-in-Room
-put-requires-in-Room c = let start = c.before in
-    let slot = room_slot _ _ c.in-Room.is _ _ c.look_up-found.ensures in
+put-requires-in-Room c = let slot = room_slot _ _ c.in-Room.is _ _ c.look_up-found.ensures in
     let long = c.put.ensures in
-    (omega (arith, start.requires.3.room, ap length long ∙ length-sets start.args.work.now (2 * start.args.n) (as_bytes start.args.at)), omega arith)
+    (omega (arith, c.requires.3.room, ap length long ∙ length-sets c.args.work.now (2 * c.args.n) (as_bytes c.args.at)), omega arith)
 
 pub returns-in-Known : goal.returns-in-Known
-returns-in-Known c = let start = c.before in
-    let a = start.args in
-    gather_known a.w a.log.now _ a.n a.work.now start.requires.3.all
+returns-in-Known c = let a = c.args in
+    gather_known a.w a.log.now _ a.n a.work.now c.requires.3.all
     (found_known _ c.in-Known.is _ a.w _ a.log.now a.at c.events_at.ensures c.look_up-found.ensures)
 
 pub returns-in-Room : goal.returns-in-Room
-returns-in-Room c = let start = c.before in
-    let a = start.args in
-    gather_hinted a.w a.log.now a.at a.n a.work.now start.requires.3 start.requires.0 start.requires.1 start.requires.2 _ c.put.ensures _ _ _ c.put-in-Room.ensures
+returns-in-Room c = let a = c.args in
+    gather_hinted a.w a.log.now a.at a.n a.work.now c.requires.3 c.requires.0 c.requires.1 c.requires.2 _ c.put.ensures _ _ _ c.put-in-Room.ensures
 
 pub returns-in-Crowded : goal.returns-in-Crowded
-returns-in-Crowded c = let start = c.before in
-    let a = start.args in
-    gather_put a.w a.log.now a.at a.n a.work.now start.requires.3 start.requires.0 start.requires.1 start.requires.2 _ c.put-in-Crowded.ensures
+returns-in-Crowded c = let a = c.args in
+    gather_put a.w a.log.now a.at a.n a.work.now c.requires.3 c.requires.0 c.requires.1 c.requires.2 _ c.put-in-Crowded.ensures

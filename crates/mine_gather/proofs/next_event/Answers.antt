@@ -12,8 +12,7 @@ returns-then-events-i-ne-HEARTBEAT c = let l = c.loop-i in record { on = l.invar
 
 pub loop-i-preserved : goal.loop-i-preserved
 loop-i-preserved c = let l = c.loop-i in
-    let start = c.before in
-    (omega (arith, l.invariant.0), beat_next start.args.w start.requires.some start.args.events.now l.i _ l.invariant.1 (search rules) (omega arith))
+    (omega (arith, l.invariant.0), beat_next c.args.w c.requires.some c.args.events.now l.i _ l.invariant.1 (search rules) (omega arith))
 
 pub returns : goal.returns
 returns c = let l = c.loop-i in record { on = l.invariant.0; same = l.invariant.1; event = λ h. absurd (omega arith) }

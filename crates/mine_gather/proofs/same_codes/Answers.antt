@@ -15,10 +15,8 @@ loop-i-preserved-then-x-y c e = absurd (false≢true e)
 
 pub loop-i-preserved : goal.loop-i-preserved
 loop-i-preserved c e = let l = c.loop-i in
-    let long = c.before in
-    same_next long.before.args.w long.before.requires.0.some long.before.args.a.now long.before.args.b.now l.i (l.invariant e) (search rules) (omega arith) c.if-x-y.false
+    same_next c.before.args.w c.before.requires.0.some c.before.args.a.now c.before.args.b.now l.i (l.invariant e) (search rules) (omega arith) c.if-x-y.false
 
 pub returns : goal.returns
 returns c e = let l = c.loop-i in
-    let start = c.before in
-    same_end start.args.w start.requires.0.some start.args.a.now start.args.b.now l.i (l.invariant e) (search rules) (omega arith)
+    same_end c.args.w c.requires.0.some c.args.a.now c.args.b.now l.i (l.invariant e) (search rules) (omega arith)

@@ -10,15 +10,12 @@ loop-i-init c = refl
 
 pub returns-then-events-i-ne-HEARTBEAT : goal.returns-then-events-i-ne-HEARTBEAT
 returns-then-events-i-ne-HEARTBEAT c = let l = c.loop-i in
-    let start = c.before in
-    sym (ap is_empty (sym l.invariant ∙ event_next start.args.w start.requires.some start.args.events.now l.i (search rules) c.if-events-i-ne-HEARTBEAT.true))
+    sym (ap is_empty (sym l.invariant ∙ event_next c.args.w c.requires.some c.args.events.now l.i (search rules) c.if-events-i-ne-HEARTBEAT.true))
 
 pub loop-i-preserved : goal.loop-i-preserved
 loop-i-preserved c = let l = c.loop-i in
-    let start = c.before in
-    beat_next start.args.w start.requires.some start.args.events.now l.i _ l.invariant (search rules) (omega arith)
+    beat_next c.args.w c.requires.some c.args.events.now l.i _ l.invariant (search rules) (omega arith)
 
 pub returns : goal.returns
 returns c = let l = c.loop-i in
-    let start = c.before in
-    sym (ap is_empty (sym l.invariant ∙ event_end start.args.w start.requires.some start.args.events.now l.i (search rules)))
+    sym (ap is_empty (sym l.invariant ∙ event_end c.args.w c.requires.some c.args.events.now l.i (search rules)))
