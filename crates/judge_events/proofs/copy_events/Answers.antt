@@ -12,15 +12,12 @@ bounds-out-n c = let l = c.loop-i in
 
 pub loop-i-preserved-then-c-ne-HEARTBEAT : goal.loop-i-preserved-then-c-ne-HEARTBEAT
 loop-i-preserved-then-c-ne-HEARTBEAT c = let l = c.loop-i in
-    let start = c.before in
-    (omega arith, copied_event start.args.episode.now start.args.out.now start.requires l.n l.i l.out l.invariant.1 (search rules) c.if-c-ne-HEARTBEAT.true)
+    (omega arith, copied_event c.args.episode.now c.args.out.now c.requires l.n l.i l.out l.invariant.1 (search rules) c.if-c-ne-HEARTBEAT.true)
 
 pub loop-i-preserved : goal.loop-i-preserved
 loop-i-preserved c = let l = c.loop-i in
-    let start = c.before in
-    (omega arith, copied_beat start.args.episode.now start.args.out.now start.requires l.n l.i l.out l.invariant.1 (search rules) c.if-c-ne-HEARTBEAT.false)
+    (omega arith, copied_beat c.args.episode.now c.args.out.now c.requires l.n l.i l.out l.invariant.1 (search rules) c.if-c-ne-HEARTBEAT.false)
 
 pub returns : goal.returns
 returns c = let l = c.loop-i in
-    let start = c.before in
-    copied_all start.args.episode.now start.args.out.now start.requires l.n l.i l.out l.invariant.1 (omega arith) (omega (arith, l.invariant.0, l.invariant.1.few))
+    copied_all c.args.episode.now c.args.out.now c.requires l.n l.i l.out l.invariant.1 (omega arith) (omega (arith, l.invariant.0, l.invariant.1.few))
