@@ -1,13 +1,11 @@
-use Prim.Native.Nat.{ℕ}
-use mathlib.Core.Path.{ap, ◌∙◌}
-use Rattle.code_sets.specs.Bits.{has}
+use mathlib.Core.Path.{◌∙◌}
 use Rattle.code_sets.proofs.BitLaws.{has_zero}
 use Rattle.judge_subtrees.specs.Entries.{labelled}
 use Rattle.judge_nodes.proofs.NodeLaws.{against_all, no_parallel}
 use Rattle.judge_nodes.proofs.codes_against.Goals as goal
 
 pub returns-in-Parallel : goal.returns-in-Parallel
-returns-in-Parallel c m = rw c.in-Parallel.is (ap (λ (x : ℕ). has x m) c.none.ensures ∙ has_zero m)
+returns-in-Parallel c m = rw c.in-Parallel.is (cc (has_zero m))
 
 pub returns : goal.returns
 returns c m = let a = c.args in
