@@ -3,6 +3,9 @@ use Rattle.tree_check.proofs.RuleLaws.{between_upto, node_settled, node_operator
 use Rattle.tree_check.specs.Checks.{NodeSays}
 use Rattle.tree_check.proofs.+list_node.Goals as goal
 
+pub list-loop-left-init : goal.list-loop-left-init
+list-loop-left-init t c = (omega arith, omega arith, λ r h. h)
+
 pub list-returns-in_default : goal.list-returns-in_default
 list-returns-in_default t c =
     c.loop-left.invariant.2 _ (list_broken _ _ _ _ _ _ (omega arith) c.in_default.is c.node-one.ensures)
