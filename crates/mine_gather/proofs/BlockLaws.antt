@@ -14,7 +14,7 @@ use Rattle.rules.specs.declared.Answer.TheVariants.{Gives}
 use Rattle.rules.proofs.AnswerLaws.{given_is, gives_same}
 use Rattle.block_seal.proofs.PartLaws.{length_part, get_d_part, part_is}
 use Rattle.log_records.proofs.RecordLaws.{size_le, Framed, frame_given, frame_events, record_given}
-use Rattle.log_episodes.proofs.EpisodeLaws.{records_given, record_fine, records_fine, episodes-next, block_sound, blocks-episodes-next}
+use Rattle.log_episodes.proofs.EpisodeLaws.{records_given, record_fine, records_fine, episodes_next, block_sound, blocks_episodes_next}
 use Rattle.mine_places.specs.Places.{codes_of, events_of, episode_of, All, Recorded}
 use Rattle.mine_places.proofs.ListLaws.{has_all, codes_counted}
 
@@ -25,7 +25,7 @@ block_here w log base left sound h =
 
 pub blocks_here : (w : ℕ) (log : List ℕ) (base left : ℕ) → 0 < left → episodes_from w left log base ≡ block_episodes w (part log base 512) ++ episodes_from w (left - 1) log (base + 512)
 blocks_here w log base left h =
-    blocks-episodes-next w log base left h ∙ ap (λ (n : ℕ). block_episodes w (part log base n) ++ episodes_from w (left - 1) log (base + 512)) (add-sub_cancel_left base 512)
+    blocks_episodes_next w log base left h ∙ ap (λ (n : ℕ). block_episodes w (part log base n) ++ episodes_from w (left - 1) log (base + 512)) (add-sub_cancel_left base 512)
 
 -- as many episodes as records
 pub episodes_left : (w : ℕ) (b : List ℕ) (at left : ℕ) → 1 ≤ w → Given (records_at w top_code left b at) → length (episodes_at w left b at) ≡ left
@@ -96,6 +96,6 @@ module _ (w : ℕ) (some : 1 ≤ w) (few : w ≤ 3) (log : List ℕ) (base : ℕ
   pub block_next : (next : ℕ) → Gives next ≡ frame_at w b at → episodes_at w left b at ≡ (episode_of w log (base + at) ∷ []) ++ episodes_at w (left - 1) b next
   block_next next call =
       let e : end ≡ next = gives_same end next (sym framed ∙ sym call) in
-      episodes-next w b at left next call h
+      episodes_next w b at left next call h
       ∙ ap (λ (k : ℕ). codes_by n w (events_at b at k) ∷ episodes_at w (left - 1) b next) (sym e)
       ∙ ap (λ (t : Episode). t ∷ episodes_at w (left - 1) b next) counted

@@ -20,7 +20,7 @@ use Rattle.rules.specs.declared.Verdict.{Verdict}
 use Rattle.rules.specs.declared.Verdict.TheVariants.{Fits, Misfit, Refused as Dismissed}
 use Rattle.rules.proofs.AnswerLaws.{given_is}
 use Rattle.block_seal.proofs.PartLaws.{get_d_part}
-use Rattle.log_episodes.proofs.EpisodeLaws.{episodes-end, episodes-next, events_codes, blocks-episodes-end, blocks-episodes-next}
+use Rattle.log_episodes.proofs.EpisodeLaws.{episodes_end, episodes_next, events_codes, blocks_episodes_end, blocks_episodes_next}
 use Rattle.text_writing.specs.Writing.{Wrote}
 use Rattle.text_writing.proofs.WroteLaws.{wrote_nothing, wrote_then, wrote_most}
 use Rattle.text_verdicts.specs.Lines.{fitting, Lines, LogLines}
@@ -103,14 +103,14 @@ module _ (block : List ℕ) (place left : ℕ) {b old mid : List ℕ} {whole : L
       → Lines b whole (episodes_at 1 (left - 1) block next) first (number + 1) old at new r
   record_lines next long call h room v w =
       let met : episodes_at 1 left block place ≡ events_at block place next ∷ episodes_at 1 (left - 1) block next =
-      episodes-next 1 block place left next call h
+      episodes_next 1 block place left next call h
       ∙ ap (λ (s : List ℕ). s ∷ episodes_at 1 (left - 1) block next) (events_codes block place next long call) in
       lines_then room (subst (λ (es : List (List ℕ)). Lines b whole es first number old at mid k) met v) w
 
   pub records_all : (n : ℕ) → left ≤ 0 → number ≡ n
       → Lines b whole (episodes_at 1 left block place) first number old at mid k → Lines b whole [] first n old at mid k
   records_all n h e v =
-      let v' = subst (λ (es : List (List ℕ)). Lines b whole es first number old at mid k) (episodes-end 1 block place left h) v in
+      let v' = subst (λ (es : List (List ℕ)). Lines b whole es first number old at mid k) (episodes_end 1 block place left h) v in
       subst (λ (m : ℕ). Lines b whole [] first m old at mid k) e v'
 
 module _ (log : List ℕ) (base left : ℕ) where
@@ -124,7 +124,7 @@ module _ (log : List ℕ) (base left : ℕ) where
       let block : List ℕ = part log base (base + 512 - base) in
       let same : number + get_or block 0 0 ≡ number + x =
       ap (λ (i : ℕ). number + i) (get_d_part log base (base + 512 - base) 0 (omega arith) ∙ ap (λ (i : ℕ). get_or log i 0) (let e : base + 0 ≡ base = omega arith in e) ∙ sym is) in
-      lines_then (omega arith) (subst (λ (es : List (List ℕ)). Lines b whole es 1 number old 0 mid k) (blocks-episodes-next 1 log base left h) v)
+      lines_then (omega arith) (subst (λ (es : List (List ℕ)). Lines b whole es 1 number old 0 mid k) (blocks_episodes_next 1 log base left h) v)
       (subst (λ (m : ℕ). Lines b (block_episodes 1 block) [] number m mid k new r) same w)
 
   -- every block has its lines
@@ -133,7 +133,7 @@ module _ (log : List ℕ) (base left : ℕ) where
   log_lines {b} {old} {new} {number} {r} h few room v =
       let s = v.said in
       let c = v.count in
-      let end = blocks-episodes-end 1 log base left h in
+      let end = blocks_episodes_end 1 log base left h in
       record {
         said = s;
         wrote = wrote_most v.wrote (omega arith) 53040 (omega arith);

@@ -5,7 +5,7 @@ use native.Mathlib.Omega.{arith}
 use Rattle.rules.specs.Mining.{Log}
 use Rattle.rules.specs.LogBlock.{log_episodes}
 use Rattle.rules.specs.Calls.{top_code}
-use Rattle.log_episodes.proofs.EpisodeLaws.{log_sound_lem, blocks_sound, blocks-episodes-end}
+use Rattle.log_episodes.proofs.EpisodeLaws.{log_sound_lem, blocks_sound, blocks_episodes_end}
 use Rattle.mine_gather.specs.Gathering.{Gathered}
 use Rattle.mine_gather.proofs.BlockLaws.{block_here, blocks_here}
 use Rattle.mine_gather.proofs.GatherLaws.{gather_start, gather_next, gather_whole}
@@ -44,6 +44,6 @@ pub returns : goal.returns
 returns c = let a = c.args in
     let cleared = c.clear_hints in
     let l = c.loop-blocks in
-    let g = subst (λ (r : Log). Gathered a.w a.log.now (log_episodes a.w a.log.now) r 0 cleared.new.work l.n l.work) (blocks-episodes-end a.w a.log.now l.base l.blocks (omega arith)) l.invariant.3 in
+    let g = subst (λ (r : Log). Gathered a.w a.log.now (log_episodes a.w a.log.now) r 0 cleared.new.work l.n l.work) (blocks_episodes_end a.w a.log.now l.base l.blocks (omega arith)) l.invariant.3 in
     let same = gather_whole a.w a.log.now (log_episodes a.w a.log.now) cleared.new.work l.n l.work g in
     (g.size ∙ cleared.ensures, record { few = omega (arith, l.invariant.2); listed = record { few = c.requires.1; all = g.all }; same = same })

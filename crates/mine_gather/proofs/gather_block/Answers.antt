@@ -10,7 +10,7 @@ use Rattle.rules.specs.LogBlock.{frame_at, block_episodes}
 use Rattle.rules.specs.Calls.{top_code}
 use Rattle.rules.specs.Mining.{Log}
 use Rattle.block_seal.proofs.PartLaws.{length_part}
-use Rattle.log_episodes.proofs.EpisodeLaws.{episodes-end, met_frame, met_next}
+use Rattle.log_episodes.proofs.EpisodeLaws.{episodes_end, met_frame, met_next}
 use Rattle.mine_gather.specs.Gathering.{Gathered}
 use Rattle.mine_gather.proofs.BlockLaws.{episodes_left, block_place, block_recorded, block_next}
 use Rattle.mine_gather.proofs.GatherLaws.{gather_start, gather_next}
@@ -65,4 +65,4 @@ returns c = let a = c.args in
     let l = c.loop-records in
     let b = part a.log.now a.base 512 in
     let g = l.invariant.3 in
-    (omega (arith, l.invariant.2, g.few), subst (λ (r : Log). Gathered a.w a.log.now (block_episodes a.w b) r a.n a.work.now l.m l.work) (episodes-end a.w b l.at l.records (omega arith)) g)
+    (omega (arith, l.invariant.2, g.few), subst (λ (r : Log). Gathered a.w a.log.now (block_episodes a.w b) r a.n a.work.now l.m l.work) (episodes_end a.w b l.at l.records (omega arith)) g)
