@@ -1,20 +1,18 @@
 -- What the two programs print for the whole of their input.
-use Rattle.std.specs.Prelude.{◌≡◌, List, [], ◌∷◌, Bool, true, false, ℕ, take, drop}
+use Rattle.std.specs.Prelude.{◌≡◌, List, [], ◌∷◌, Bool, true, false, ℕ, take, drop, Ok, Err}
 use Rattle.rules.specs.Heartbeats.{without_heartbeats}
 use Rattle.rules.specs.Trees.{Tree, size, In}
-use Rattle.rules.specs.Refusals.{and_then}
+use Rattle.rules.specs.Refusals.{number_of, Answer, and_then}
 use Rattle.rules.specs.LogBlock.{log_episodes}
 use Rattle.rules.specs.TreeBlock.{tree_block}
 use Rattle.rules.specs.Calls.{log_reading, tree_of, checking}
 use Rattle.rules.specs.Listing.{listing, refusal_line, verdict_lines}
-use Rattle.rules.specs.declared.Answer.{Answer}
-use Rattle.rules.specs.declared.Answer.TheVariants.{Gives, Refused}
 
 -- ---- mining: the input is a log
 
 abbrev pub mined_by : Answer → List ℕ → List ℕ
-mined_by (Gives _) log = listing (tree_block (tree_of 1 log)) (size (tree_of 1 log))
-mined_by (Refused number place) log = refusal_line number place
+mined_by (Ok _) log = listing (tree_block (tree_of 1 log)) (size (tree_of 1 log))
+mined_by (Err refusal) log = refusal_line (number_of refusal.reason) refusal.place
 
 -- the listing of the log's tree, or the refusal's line
 unfoldable pub mined_text : List ℕ → List ℕ
@@ -45,8 +43,8 @@ pub record VerdictsOf (t : Tree) (log text : List ℕ) : Type 0 where
   pub lines : text ≡ verdict_lines 1 verdicts
 
 abbrev pub JudgedBy : Answer → List ℕ → List ℕ → List ℕ → Type 0
-JudgedBy (Gives _) block log text = (t : Tree) → tree_block t ≡ block → VerdictsOf t log text
-JudgedBy (Refused number place) block log text = text ≡ refusal_line number place
+JudgedBy (Ok _) block log text = (t : Tree) → tree_block t ≡ block → VerdictsOf t log text
+JudgedBy (Err refusal) block log text = text ≡ refusal_line (number_of refusal.reason) refusal.place
 
 -- the verdicts on the log's episodes by the tree that the first 512 bytes are the block of, or the refusal's line
 pub record JudgedText (input text : List ℕ) : Type 0 where

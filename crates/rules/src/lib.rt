@@ -1,23 +1,68 @@
 // What the calls answer, and the sizes of a log, of a tree and of work. What they mean is said in specs/.
 #![tactic(auto)]
 
-// The number that a call gives, or a refusal by its number and place in the table of refusals.
-#[derive(Clone, Copy)]
-pub enum Answer {
-    Gives(usize),
-    Refused { number: u8, place: usize },
+ghost use Rattle.std.specs.Prelude.{◌≡◌};
+ghost use Rattle.rules.specs.Refusals.{number_of};
+ghost use Rattle.rules.specs.TreeBlock.{kind_of, op_of, operator_of};
+
+// Why a call refuses: the rows of the table of refusals, in their order.
+#[derive(Clone, Copy, Debug, PartialEq, Eq)]
+pub enum Reason {
+    LogLength,
+    OutLength,
+    WorkLength,
+    LogCheck,
+    BadRecord,
+    BadCode,
+    NoRecord,
+    TreeBlock,
+    BadTree,
+    EpisodeLength,
+    EpisodeCode,
+    BlockFull,
 }
 
-// What judging answers.
-#[derive(Clone, Copy)]
+// The number of the row.
+impl From<Reason> for u8 {
+    ghost from_gives = { λ reason number. number ≡ number_of reason };
+
+    fn from(reason: Reason) -> u8 {
+        match reason {
+            Reason::LogLength => 1,
+            Reason::OutLength => 2,
+            Reason::WorkLength => 3,
+            Reason::LogCheck => 4,
+            Reason::BadRecord => 5,
+            Reason::BadCode => 6,
+            Reason::NoRecord => 7,
+            Reason::TreeBlock => 8,
+            Reason::BadTree => 9,
+            Reason::EpisodeLength => 10,
+            Reason::EpisodeCode => 11,
+            Reason::BlockFull => 12,
+        }
+    }
+}
+
+// A refusal: its reason and its place.
+#[derive(Clone, Copy, Debug, PartialEq, Eq)]
+pub struct Refusal {
+    pub reason: Reason,
+    pub place: usize,
+}
+
+// The number that a call gives, or why it refuses.
+pub type Answer = Result<usize, Refusal>;
+
+// What judging tells of an episode.
+#[derive(Clone, Copy, Debug, PartialEq, Eq)]
 pub enum Verdict {
     Fits,
     Misfit,
-    Refused { number: u8, place: usize },
 }
 
 // The operators of a tree.
-#[derive(Clone, Copy)]
+#[derive(Clone, Copy, Debug, PartialEq, Eq)]
 pub enum Operator {
     Choice,
     Sequence,
@@ -37,6 +82,34 @@ pub const SEQUENCE: u8 = 4;
 pub const PARALLEL: u8 = 5;
 
 pub const LOOP: u8 = 6;
+
+// The kind of an operator's entry.
+impl From<Operator> for u8 {
+    ghost from_gives = { λ operator kind. kind ≡ kind_of (op_of operator) };
+
+    fn from(operator: Operator) -> u8 {
+        match operator {
+            Operator::Choice => CHOICE,
+            Operator::Sequence => SEQUENCE,
+            Operator::Parallel => PARALLEL,
+            Operator::Loop => LOOP,
+        }
+    }
+}
+
+// The operator of an entry's kind.
+impl From<u8> for Operator {
+    ghost from_gives = { λ kind operator. op_of operator ≡ operator_of kind };
+
+    fn from(kind: u8) -> Operator {
+        match kind {
+            CHOICE => Operator::Choice,
+            SEQUENCE => Operator::Sequence,
+            PARALLEL => Operator::Parallel,
+            _ => Operator::Loop,
+        }
+    }
+}
 
 // The largest code, the number of codes, the heartbeat among them, and what stands where there is no code.
 pub const TOP_CODE: u8 = 31;
