@@ -11,14 +11,14 @@ use Rattle.text_writing.specs.Writing.{Wrote}
 use Rattle.text_writing.proofs.WroteLaws.{wrote_most}
 use Rattle.text_listing.specs.Names.{names, Named}
 
-pub name_five : (kind : ℕ) → (kind ≡ 0 → ⊥) → kind ≤ 5 → Named kind ((kind - 1) * 5)
-name_five zero z h = absurd (z refl)
-name_five (suc zero) z h = record { low = omega arith; is = refl; short = omega arith }
-name_five (suc (suc zero)) z h = record { low = omega arith; is = refl; short = omega arith }
-name_five (suc (suc (suc zero))) z h = record { low = omega arith; is = refl; short = omega arith }
-name_five (suc (suc (suc (suc zero)))) z h = record { low = omega arith; is = refl; short = omega arith }
-name_five (suc (suc (suc (suc (suc zero))))) z h = record { low = omega arith; is = refl; short = omega arith }
-name_five (suc (suc (suc (suc (suc (suc k)))))) z h = absurd (omega arith)
+pub name_five : (kind : ℕ) → 1 ≤ kind → kind ≤ 5 → Named kind ((kind - 1) * 5)
+name_five zero low h = absurd (omega arith)
+name_five (suc zero) low h = record { low = omega arith; is = refl; short = omega arith }
+name_five (suc (suc zero)) low h = record { low = omega arith; is = refl; short = omega arith }
+name_five (suc (suc (suc zero))) low h = record { low = omega arith; is = refl; short = omega arith }
+name_five (suc (suc (suc (suc zero)))) low h = record { low = omega arith; is = refl; short = omega arith }
+name_five (suc (suc (suc (suc (suc zero))))) low h = record { low = omega arith; is = refl; short = omega arith }
+name_five (suc (suc (suc (suc (suc (suc k)))))) low h = absurd (omega arith)
 
 -- what is no other kind is a loop
 name_loop : (kind : ℕ) → (kind ≡ 1 → ⊥) → (kind ≡ 2 → ⊥) → (kind ≡ 3 → ⊥) → (kind ≡ 4 → ⊥) → (kind ≡ 5 → ⊥) → Named kind 25
@@ -26,8 +26,8 @@ name_loop kind a b c d e =
     let is : kind_name kind ≡ kind_name 6 = rw (ne_eqb kind 1 a, ne_eqb kind 2 b, ne_eqb kind 3 c, ne_eqb kind 4 d, ne_eqb kind 5 e) in
     record { low = omega arith; is = sym is; short = subst (λ (s : List ℕ). length s ≤ 6) (sym is) (omega arith) }
 
-pub name_none : (kind : ℕ) → kind ≡ 0 → Named kind 25
-name_none kind h = name_loop kind (λ e. omega arith) (λ e. omega arith) (λ e. omega arith) (λ e. omega arith) (λ e. omega arith)
+pub name_low : (kind : ℕ) → kind < 1 → Named kind 25
+name_low kind h = name_loop kind (λ e. omega arith) (λ e. omega arith) (λ e. omega arith) (λ e. omega arith) (λ e. omega arith)
 
 pub name_high : (kind : ℕ) → 5 < kind → Named kind 25
 name_high kind h = name_loop kind (λ e. omega arith) (λ e. omega arith) (λ e. omega arith) (λ e. omega arith) (λ e. omega arith)

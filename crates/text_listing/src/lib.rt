@@ -7,22 +7,21 @@ ghost use Rattle.rules.specs.Calls.{entry_count};
 ghost use Rattle.text_writing.specs.Writing.{Wrote};
 ghost use Rattle.text_listing.specs.Names.{Named};
 
-use rules::PARALLEL;
+use rules::{PARALLEL, SILENT};
 
 // The place of a kind's name in the names.
+#[tactic(auto, using(crate::proofs::NameLaws::name_low, crate::proofs::NameLaws::name_high, crate::proofs::NameLaws::name_five))]
 fn name_place(kind: u8) -> usize
     ensures { Named kind result }
 {
-    if kind == 0 {
-        return 25;
+    match kind {
+        SILENT..=PARALLEL => (kind as usize - 1) * 5,
+        _ => 25,
     }
-    if PARALLEL < kind {
-        return 25;
-    }
-    (kind as usize - 1) * 5
 }
 
 // The name of a kind: five bytes, six for a loop.
+#[tactic(auto, using(crate::proofs::NameLaws::named_text))]
 fn kind_name(out: &mut [u8], at: usize, kind: u8) -> usize
     requires { at + 6 ≤ length out.old }
     ensures { Wrote 6 out.old at (kind_name kind) out.new result }
@@ -59,10 +58,8 @@ fn entry_lines(tree: &[u8], nodes: usize, out: &mut [u8], at: usize) -> usize
     ensures { Wrote (17 * nodes) out.old at (entry_lines nodes tree.now 0) out.new result }
 {
     let mut next = at;
-    let mut v: usize = 0;
-    while v < nodes {
+    for v in 0..nodes {
         next = entry_line(tree, v, out, next);
-        v += 1;
     }
     next
 }

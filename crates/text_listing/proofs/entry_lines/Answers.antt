@@ -1,16 +1,15 @@
 use mathlib.Core.Path.{◌≡◌}
 use native.Mathlib.Omega.{arith}
-use borrow.Author.Rules.{rules}
 use Rattle.text_listing.proofs.Lines.{no_lines, line_more}
 use Rattle.text_listing.proofs.entry_lines.Goals as goal
 
 pub loop-v-init : goal.loop-v-init
-loop-v-init c = (omega arith, no_lines c.args.out.now c.args.at c.args.tree.now)
+loop-v-init c = no_lines c.args.out.now c.args.at c.args.tree.now
 
 pub loop-v-preserved : goal.loop-v-preserved
-loop-v-preserved c = (search rules, line_more _ _ (omega arith) c.loop-v.invariant.1 c.entry_line-next.ensures)
+loop-v-preserved c = line_more _ _ (omega arith) c.loop-v.invariant c.entry_line-next.ensures
 
 pub returns : goal.returns
 returns c = let l = c.loop-v in
     let e : l.v ≡ c.args.nodes = omega arith in
-    rw e at l.invariant.1
+    rw e at l.invariant
