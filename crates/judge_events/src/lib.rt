@@ -12,10 +12,7 @@ pub fn copy_events(episode: &[u8], out: &mut [u8]) -> usize
     ensures { Copies episode.now out.old result out.new }
 {
     let mut n: usize = 0;
-    let mut i: usize = 0;
-    while i < episode.len() {
-        let c = episode[i];
-        i += 1;
+    for &c in episode {
         if c != HEARTBEAT {
             out[n] = c;
             n += 1;
