@@ -67,6 +67,10 @@ listed_lowest m x p l =
     ∙ keep_ext (λ i. has x i && not (eqb i (head_of (listed m x)))) (has (bit_and x (x - 1))) (from 0 m)
     (λ i h. sym (has_lowest m x i p l ∙ ap (λ (c : ℕ). has x i && not (eqb i c)) e)))
 
+-- a turn of a walk over the codes of a set
+pub walk_turn : (m x c : ℕ) → (x ≡ 0 → ⊥) → x < 2 ^ m → c ≡ head_of (listed m x) → listed m x ≡ c ∷ listed m (bit_and x (x - 1))
+walk_turn m x c n l e = rw e (listed_lowest m x (omega arith) l)
+
 -- ---- of two sets
 
 smaller_of : (c a b : ℕ) → c ≤ a → c ≤ b → (a ≤ c) ⊎ (b ≤ c) → c ≡ pick (ltb a b) a b

@@ -1,6 +1,6 @@
 -- The codes of a set as a list, over any number of codes m.
 use mathlib.Core.Path.{◌≡◌, refl, sym, ◌∙◌, ap, ap₂, fun_ext}
-use mathlib.Core.List.{List}
+use mathlib.Core.List.{List, []}
 use mathlib.Core.Bool.{Bool, true, false, cond}
 use Prim.Native.Nat.{ℕ, zero, suc, ◌+◌, ◌<◌}
 use native.Mathlib.Nat.{add-zero, zero-add, suc-add, add-suc}
@@ -8,8 +8,9 @@ use native.Mathlib.Omega.{arith}
 use lib.ListN.{length}
 use Rattle.rules.specs.Words.{push, keep, mem, from}
 use Rattle.rules.proofs.BoolLaws.{bool_ext}
-use Rattle.rules.proofs.ListLaws.{Has, has_keep, keep_has, has_from, from_has, keep_ext, has_mem, mem_has}
+use Rattle.rules.proofs.ListLaws.{Has, has_keep, keep_has, has_from, from_has, keep_ext, keep_none, has_mem, mem_has}
 use Rattle.code_sets.specs.Bits.{has, count, listed}
+use Rattle.code_sets.proofs.BitLaws.{has_zero}
 
 module _ (m : ℕ) where
   pub has_listed : (x c : ℕ) → Has c (listed m x) → (c < m) × (has x c ≡ true)
@@ -28,6 +29,11 @@ module _ (m : ℕ) where
   pub mem_listed : (x c : ℕ) → c < m → mem c (listed m x) ≡ has x c
   mem_listed x c l =
       bool_ext (mem c (listed m x)) (has x c) (λ h. (has_listed x c (mem_has c (listed m x) h)).1) (λ h. has_mem c (listed m x) (listed_has x c l h))
+
+-- the list of no code
+pub listed_none : (m x : ℕ) → x ≡ 0 → listed m x ≡ []
+unfolding listed
+listed_none m x e = keep_none (has x) (from 0 m) (λ c i. ap (λ (y : ℕ). has y c) e ∙ has_zero c)
 
 -- a list is as long as the set has codes
 keep_count : (n i : ℕ) (p : ℕ → Bool) → length (keep p (from i n)) ≡ count n (λ j. p (i + j))

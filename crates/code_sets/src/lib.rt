@@ -11,7 +11,7 @@ use rules::NO_CODE;
 // A bit for each code.
 pub type Bits = u32;
 
-#[derive(Clone, Copy)]
+#[derive(Clone, Copy, Debug, Default, PartialEq, Eq)]
 pub struct CodeSet {
     pub bits: Bits,
 }
@@ -39,6 +39,13 @@ impl CodeSet {
         ensures { (i : ℕ) → has result.bits i ≡ ltb i code_count }
     {
         CodeSet::FULL
+    }
+
+    // Is there no code in the set?
+    pub fn is_empty(self) -> bool
+        ensures { result ≡ eqb self.bits 0 }
+    {
+        self.bits == 0
     }
 
     // One code; what is above the largest is none.
@@ -141,5 +148,37 @@ impl CodeSet {
             return c as u8;
         }
         0
+    }
+
+    // The codes one by one, from the smallest on.
+    pub fn codes(self) -> Codes
+        ensures { result.left ≡ self.bits }
+    {
+        Codes { left: self.bits }
+    }
+}
+
+// The codes of a set that are left of a walk over it.
+#[derive(Clone, Copy)]
+pub struct Codes {
+    pub left: Bits,
+}
+
+impl Iterator for Codes {
+    ghost use Rattle.std.specs.Iterator.{YieldsFirst, item_count};
+
+    type Item = u8;
+
+    ghost next_gives = { YieldsFirst (λ s. listed code_count s.left) };
+
+    ghost remaining = { item_count (λ s. listed code_count s.left) };
+
+    fn next(&mut self) -> Option<u8> {
+        if self.left == 0 {
+            return None;
+        }
+        let c = CodeSet { bits: self.left }.first();
+        self.left &= self.left - 1;
+        Some(c)
     }
 }
