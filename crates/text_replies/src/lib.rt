@@ -5,7 +5,7 @@ ghost use Rattle.std.specs.Prelude.{◌+◌, ◌≤◌, length};
 ghost use Rattle.rules.specs.Listing.{refusal_line, verdict_line};
 ghost use Rattle.text_writing.specs.Writing.{Wrote};
 
-// A refusal's line: at most 21 bytes.
+// A refusal's line: at most 21 bytes. `refused` is the number of the reason: to ask for a `Reason` would ask more of a caller.
 pub fn write_refusal(refused: u8, place: usize, out: &mut [u8]) -> usize
     requires { 21 ≤ length out.old }
     ensures { Wrote 21 out.old 0 (refusal_line refused place) out.new result }
