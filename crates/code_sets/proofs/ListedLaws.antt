@@ -1,16 +1,17 @@
 -- The codes of a set as a list, over any number of codes m.
-use mathlib.Core.Path.{◌≡◌, refl, sym, ◌∙◌, ap, ap₂, fun_ext}
-use mathlib.Core.List.{List, []}
+use mathlib.Core.Path.{◌≡◌, refl, sym, ◌∙◌, ap, ap₂, fun_ext, subst}
+use mathlib.Core.Logic.{inl, ⊎_elim}
+use mathlib.Core.List.{List, [], ◌∷◌}
 use mathlib.Core.Bool.{Bool, true, false, cond}
-use Prim.Native.Nat.{ℕ, zero, suc, ◌+◌, ◌<◌}
+use Prim.Native.Nat.{ℕ, zero, suc, ◌+◌, ◌^◌, ◌≤◌, ◌<◌}
 use native.Mathlib.Nat.{add-zero, zero-add, suc-add, add-suc}
 use native.Mathlib.Omega.{arith}
 use lib.ListN.{length}
 use Rattle.rules.specs.Words.{push, keep, mem, from}
-use Rattle.rules.proofs.BoolLaws.{bool_ext}
+use Rattle.rules.proofs.BoolLaws.{bool_ext, not_both_lem}
 use Rattle.rules.proofs.ListLaws.{Has, has_keep, keep_has, has_from, from_has, keep_ext, keep_none, has_mem, mem_has}
 use Rattle.code_sets.specs.Bits.{has, count, listed}
-use Rattle.code_sets.proofs.BitLaws.{has_zero}
+use Rattle.code_sets.proofs.BitLaws.{has_zero, has_high, lt_or_le}
 
 module _ (m : ℕ) where
   pub has_listed : (x c : ℕ) → Has c (listed m x) → (c < m) × (has x c ≡ true)
@@ -29,6 +30,17 @@ module _ (m : ℕ) where
   pub mem_listed : (x c : ℕ) → c < m → mem c (listed m x) ≡ has x c
   mem_listed x c l =
       bool_ext (mem c (listed m x)) (has x c) (λ h. (has_listed x c (mem_has c (listed m x) h)).1) (λ h. has_mem c (listed m x) (listed_has x c l h))
+
+  -- of a set that fits, the codes past m too
+  pub mem_fits : (x : ℕ) → x < 2 ^ m → (c : ℕ) → mem c (listed m x) ≡ has x c
+  mem_fits x l c =
+      ⊎_elim (mem_listed x c)
+      (λ (h : m ≤ c). bool_ext (mem c (listed m x)) (has x c) (λ e. absurd (omega (arith, (has_listed x c (mem_has c (listed m x) e)).0))) (λ e. not_both_lem (has x c) e (has_high m x c l h)))
+      (lt_or_le c m)
+
+  -- a code that heads what is left of a walk
+  pub code_below : (x c : ℕ) (later : List ℕ) → listed m x ≡ c ∷ later → c < m
+  code_below x c later e = (has_listed x c (subst (Has c) (sym e) (inl refl))).0
 
 -- the list of no code
 pub listed_none : (m x : ℕ) → x ≡ 0 → listed m x ≡ []

@@ -6,7 +6,7 @@ ghost use Rattle.graph_rows.specs.Edges.{Bare, Noted, Started, Ended};
 use code_sets::{Bits, CodeSet};
 use rules::{CODE_COUNT, NO_CODE};
 
-#[derive(Clone, Copy)]
+#[derive(Clone, Copy, Debug, PartialEq, Eq)]
 pub struct Graph {
     pub rows: [Bits; CODE_COUNT],
     pub starts: CodeSet,
@@ -32,8 +32,7 @@ impl Graph {
         if a < NO_CODE {
             let i = a as usize;
             let row = CodeSet { bits: self.rows[i] };
-            let grown = row.with(b);
-            self.rows[i] = grown.bits;
+            self.rows[i] = row.with(b).bits;
         }
         self
     }
@@ -42,8 +41,7 @@ impl Graph {
     pub fn started(mut self, a: u8) -> Self
         ensures { Started self a result }
     {
-        let starts = self.starts.with(a);
-        self.starts = starts;
+        self.starts = self.starts.with(a);
         self
     }
 
@@ -51,8 +49,7 @@ impl Graph {
     pub fn ended(mut self, a: u8) -> Self
         ensures { Ended self a result }
     {
-        let ends = self.ends.with(a);
-        self.ends = ends;
+        self.ends = self.ends.with(a);
         self
     }
 }
