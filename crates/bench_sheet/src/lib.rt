@@ -1,7 +1,7 @@
 // The lines of a bench sheet: words with one blank between two, of which a number or the name of a kind of node is a value.
 #![tactic(auto)]
 
-ghost use Rattle.std.specs.Prelude.{◌≡◌, ◌%◌};
+ghost use Rattle.std.specs.Prelude.{◌≡◌};
 ghost use Rattle.std.proofs.lemmas.List.Edits.{sets};
 ghost use Rattle.bench_sheet.specs.Words.{kind_named, grown, number_of, values_of, listed};
 
@@ -11,56 +11,37 @@ use rules::{ACTIVITY, CHOICE, LOOP, PARALLEL, SEQUENCE, SILENT};
 fn kind(letter: u8) -> u8
     ensures { result ≡ kind_named letter }
 {
-    if letter == b't' {
-        return SILENT;
+    match letter {
+        b't' => SILENT,
+        b'a' => ACTIVITY,
+        b'x' => CHOICE,
+        b's' => SEQUENCE,
+        b'p' => PARALLEL,
+        b'l' => LOOP,
+        _ => 0,
     }
-    if letter == b'a' {
-        return ACTIVITY;
-    }
-    if letter == b'x' {
-        return CHOICE;
-    }
-    if letter == b's' {
-        return SEQUENCE;
-    }
-    if letter == b'p' {
-        return PARALLEL;
-    }
-    if letter == b'l' {
-        return LOOP;
-    }
-    0
 }
 
 // What a word says with one byte more: a digit, of a number up to a million, or the letter of a kind.
+#[tactic(auto, unfolding(crate::specs::Words::grown))]
 fn grow(n: usize, b: u8) -> usize
     ensures { result ≡ grown n b }
 {
-    if b < b'0' {
-        return n;
+    match b {
+        b'0'..=b'9' if n <= 100000 => n * 10 + usize::from(b - b'0'),
+        _ if n == 0 => usize::from(kind(b)),
+        _ => n,
     }
-    if b <= b'9' {
-        if 100000 < n {
-            return n;
-        }
-        return n * 10 + (b - b'0') as usize;
-    }
-    if n == 0 {
-        return kind(b) as usize;
-    }
-    n
 }
 
 // What word k of a line says; word 0 is the first.
+#[tactic(auto, unfolding(crate::specs::Words::number_from))]
 pub fn number(line: &[u8], k: usize) -> usize
     ensures { result ≡ number_of line.now k }
 {
     let mut n: usize = 0;
     let mut left = k;
-    let mut i: usize = 0;
-    while i < line.len() {
-        let b = line[i];
-        i += 1;
+    for &b in line {
         if b == b' ' {
             if left == 0 {
                 return n;
@@ -77,38 +58,21 @@ pub fn number(line: &[u8], k: usize) -> usize
 pub fn values(line: &[u8]) -> usize
     ensures { result ≡ values_of line.now }
 {
-    let mut count: usize = 0;
-    let mut i: usize = 0;
-    while i < line.len() {
-        let b = line[i];
-        i += 1;
-        if b == b' ' {
-            count += 1;
-        }
-    }
-    count
-}
-
-// The lowest byte of a number.
-fn low(n: usize) -> u8
-    ensures { result ≡ n % 256 }
-{
-    (n % 256) as u8
+    line.iter().filter(|b| **b == b' ').count()
 }
 
 // Puts the values of a line as bytes from a place on, as far as there is room; the first ones are skipped.
+#[tactic(auto, using(crate::proofs::WordLaws::sets_out, crate::proofs::WordLaws::lay_end, crate::proofs::WordLaws::lay_on))]
 pub fn lay(line: &[u8], skip: usize, s: &mut [u8], place: usize)
     ensures { s.new ≡ sets s.old place (listed line.now skip) }
 {
-    let n = values(line);
-    let mut k = skip;
+    // The place by hand: it ends with the room, as k ends with the values.
     let mut at = place;
-    while k < n {
+    for k in skip..values(line) {
         if s.len() <= at {
             return;
         }
-        k += 1;
-        s[at] = low(number(line, k));
+        s[at] = (number(line, k + 1) % 256) as u8;
         at += 1;
     }
 }

@@ -1,12 +1,8 @@
 use mathlib.Core.Path.{◌≡◌}
 use Prim.Native.Nat.{◌-◌}
-use lib.ListN.{length}
 use lib.Seq.{sets}
 use Rattle.bench_sheet.specs.Words.{values_of, bytes_from, listed}
 use Rattle.bench_sheet.proofs.lay.Given as goal
 
 abbrev pub invariant-loop-k : goal.invariant-loop-k
-invariant-loop-k l = (l.n ≡ values_of l.line) × (length l.s ≡ length l.initial.s) × (sets l.s l.at (bytes_from (values_of l.line - l.k) l.line l.k) ≡ sets l.initial.s l.place (listed l.line l.skip))
-
-abbrev pub decreases-loop-k : goal.decreases-loop-k
-decreases-loop-k l = l.n - l.k
+invariant-loop-k l = sets l.s l.at (bytes_from (values_of l.line - l.k) l.line l.k) ≡ sets l.initial.s l.place (listed l.line l.skip)
