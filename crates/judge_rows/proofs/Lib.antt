@@ -1,2 +1,3 @@
 pub mod RunLaws
 pub mod TableLaws
+pub mod CutLaws

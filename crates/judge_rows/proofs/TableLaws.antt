@@ -6,17 +6,16 @@ use mathlib.Core.Path.{◌≡◌, refl, sym, ap, ap₂, ◌∙◌, subst}
 use mathlib.Core.Logic.{⊎_elim}
 use mathlib.Core.Bool.{Bool, false, ◌&&◌, ◌||◌}
 use borrow.Author.Tests.{lt-ltb, le-ltb}
-use lib.ListN.{length, get_or, set, replicate, length-set, get_or-eq_default}
+use lib.ListN.{length, get_or, set, replicate, get_or-eq_default}
 use lib.Seq.{get_or-set_same, get_or-set_other}
-use lib.Bits.{bit_and}
 use Rattle.rules.specs.Trees.{Op, choice, sequence, parallel, loop}
 use Rattle.code_sets.specs.Bits.{has}
-use Rattle.code_sets.proofs.BitLaws.{lt_or_le, has_zero, has_and}
+use Rattle.code_sets.proofs.BitLaws.{lt_or_le, has_zero}
 use Rattle.code_sets.proofs.AnyLaws.{any_none}
 use Rattle.judge_rows.specs.Rows.{at, after, joined_by, kept, Stored}
 use Rattle.judge_rows.proofs.RunLaws.{three}
 
-zeros_at : (n k : ℕ) → ◌≡◌ {A = ℕ} (get_or (replicate n 0) k 0) 0
+pub zeros_at : (n k : ℕ) → ◌≡◌ {A = ℕ} (get_or (replicate n 0) k 0) 0
 zeros_at zero zero = refl
 zeros_at zero (suc k) = refl
 zeros_at (suc n) zero = refl
@@ -76,22 +75,6 @@ kept_row work v i j u = ap (λ (b : Bool). b && has (get_or work (v * 64 + i) 0)
 pub kept_out : (work : List ℕ) (v i j : ℕ) → 64 ≤ i → kept work v i j ≡ false
 unfolding kept
 kept_out work v i j u = ap (λ (b : Bool). b && has (get_or work (v * 64 + i) 0) j) (le-ltb i 64 u)
-
--- a row of the entry, cut down
-pub narrow_row : (work : List ℕ) (v i w j : ℕ) (t : Bool) → i < 64 → has w j ≡ t → has (bit_and (get_or work (v * 64 + i) 0) w) j ≡ (kept work v i j && t)
-narrow_row work v i w j t u h = has_and (get_or work (v * 64 + i) 0) w j ∙ ap₂ ◌&&◌ (sym (kept_row work v i j u)) h
-
-pub stored_more : (old R new : List ℕ) (v i : ℕ) → v * 64 + i < length new → Stored old v R i new → Stored old v R (i + 1) (set new (v * 64 + i) (get_or R i 0))
-stored_more old R new v i l s = record {
-  size = length-set new (v * 64 + i) (get_or R i 0) ∙ s.size;
-  rows = λ k g. ⊎_elim
-      (λ (u : k < i). get_or-set_other new (v * 64 + i) (v * 64 + k) (get_or R i 0) 0 (λ e. omega arith) ∙ s.rows k u)
-      (λ (u : i ≤ k). let e : k ≡ i = omega arith in
-      ap (λ (m : ℕ). get_or (set new (v * 64 + i) (get_or R i 0)) (v * 64 + m) 0) e ∙ get_or-set_same new (v * 64 + i) (get_or R i 0) 0 l ∙ ap (λ (m : ℕ). get_or R m 0) (sym e))
-      (lt_or_le k i);
-  below = λ k g. get_or-set_other new (v * 64 + i) k (get_or R i 0) 0 (λ e. omega arith) ∙ s.below k g;
-  above = λ k g. get_or-set_other new (v * 64 + i) k (get_or R i 0) 0 (λ e. omega arith) ∙ s.above k (omega arith);
-}
 
 -- the rows of entry v are those stored
 pub kept_new : (old R new : List ℕ) (v : ℕ) → length R ≡ 64 → Stored old v R 64 new → (i j : ℕ) → kept new v i j ≡ at R i j

@@ -9,28 +9,35 @@ ghost use Rattle.judge_rows.specs.Rows.{at, between, clear, single, kept, Stored
 use code_sets::CodeSet;
 use rules::PLACE_COUNT;
 
+// Takes from the rows the places that have a blocked event on the way.
+fn cut_down(rows: &mut [u64], episode: &[u8], blocked: CodeSet)
+    requires { (length rows.old ≡ 64) × (length episode.now ≤ 63) }
+    ensures { (i j : ℕ) → at rows.new i j ≡ (at rows.old i j && between (clear (has blocked.bits)) episode.now i j) }
+{
+    let n = episode.len();
+    let mut run: u64 = 1 << n;
+    rows[n + 1..].fill(0);
+    rows[n] &= run;
+    for i in (0..n).rev() {
+        if blocked.has(episode[i]) {
+            run = 0;
+        }
+        run |= 1 << i;
+        rows[i] &= run;
+    }
+}
+
 // Row i has the places j from i on with no blocked event between i and j.
 pub fn clear_rows(episode: &[u8], blocked: CodeSet) -> [u64; PLACE_COUNT]
     requires { length episode.now ≤ 63 }
     ensures { (i j : ℕ) → at result i j ≡ between (clear (has blocked.bits)) episode.now i j }
 {
-    let n = episode.len();
-    let mut rows = [0u64; PLACE_COUNT];
-    let mut run: u64 = 1 << n;
-    rows[n] = run;
-    let mut i = n;
-    while 0 < i {
-        i -= 1;
-        if blocked.has(episode[i]) {
-            run = 0;
-        }
-        run |= 1 << i;
-        rows[i] = run;
-    }
+    let mut rows = [u64::MAX; PLACE_COUNT];
+    cut_down(&mut rows, episode, blocked);
     rows
 }
 
-// Row i has the places j with exactly one event of the code between i and j.
+// Row i has the places j with exactly one event of the code between i and j. A walk of its own: its rows are the run before the next such event, and not the run.
 pub fn leaf_rows(episode: &[u8], code: u8) -> [u64; PLACE_COUNT]
     requires { length episode.now ≤ 63 }
     ensures { (i j : ℕ) → at result i j ≡ between (single code) episode.now i j }
@@ -39,9 +46,7 @@ pub fn leaf_rows(episode: &[u8], code: u8) -> [u64; PLACE_COUNT]
     let mut rows = [0u64; PLACE_COUNT];
     let mut run: u64 = 1 << n;
     let mut one: u64 = 0;
-    let mut i = n;
-    while 0 < i {
-        i -= 1;
+    for i in (0..n).rev() {
         if episode[i] == code {
             one = run;
             run = 0;
@@ -57,19 +62,10 @@ pub fn rows_of(work: &[u64], v: usize, episode: &[u8], blocked: CodeSet) -> [u64
     requires { (v < entry_count) × (8128 ≤ length work.now) × (length episode.now ≤ 63) }
     ensures { (i j : ℕ) → at result i j ≡ (kept work.now v i j && between (clear (has blocked.bits)) episode.now i j) }
 {
-    let n = episode.len();
+    let first = v * PLACE_COUNT;
     let mut rows = [0u64; PLACE_COUNT];
-    let mut run: u64 = 1 << n;
-    rows[n] = work[v * PLACE_COUNT + n] & run;
-    let mut i = n;
-    while 0 < i {
-        i -= 1;
-        if blocked.has(episode[i]) {
-            run = 0;
-        }
-        run |= 1 << i;
-        rows[i] = work[v * PLACE_COUNT + i] & run;
-    }
+    rows.copy_from_slice(&work[first..first + PLACE_COUNT]);
+    cut_down(&mut rows, episode, blocked);
     rows
 }
 
@@ -78,7 +74,6 @@ pub fn store_rows(work: &mut [u64], v: usize, rows: &[u64])
     requires { (v < entry_count) × (8128 ≤ length work.old) × (length rows.now ≡ 64) }
     ensures { Stored work.old v rows.now 64 work.new }
 {
-    for i in 0..PLACE_COUNT {
-        work[v * PLACE_COUNT + i] = rows[i];
-    }
+    let first = v * PLACE_COUNT;
+    work[first..first + PLACE_COUNT].copy_from_slice(rows);
 }

@@ -15,6 +15,3 @@ runs a = between (clear (λ x. eqb x a))
 abbrev pub invariant-loop-i : goal.invariant-loop-i
 invariant-loop-i l = (l.i ≤ length l.episode) × (length l.rows ≡ 64) × ((j : ℕ) → has l.run j ≡ runs l.code l.episode l.i j) × ((j : ℕ) → has l.one j ≡ between (single l.code) l.episode l.i j)
     × ((k j : ℕ) → l.i ≤ k → at l.rows k j ≡ between (single l.code) l.episode k j)
-
-abbrev pub decreases-loop-i : goal.decreases-loop-i
-decreases-loop-i l = l.i
