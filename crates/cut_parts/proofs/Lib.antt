@@ -1,3 +1,4 @@
 pub mod SetLaws
 pub mod InsertLaws
 pub mod RemainingLaws
+pub mod RetainLaws

@@ -1,16 +1,15 @@
--- The sets of parts: those from a place on, which of them a row meets, and how many there are.
+-- The sets of parts: which of them a row meets, and how many there are.
 use mathlib.Core.Path.{◌≡◌, refl, sym, ◌∙◌, ap}
 use mathlib.Core.List.{List, [], ◌∷◌}
 use mathlib.Core.Bool.{true, false, not}
-use Prim.Native.Nat.{ℕ, suc, ◌+◌, ◌^◌, ◌≤◌, ◌<◌}
-use native.Mathlib.Numerals.{add-one}
+use Prim.Native.Nat.{ℕ, suc, ◌^◌, ◌≤◌, ◌<◌}
 use native.Mathlib.Nat.{lt_of_le_of_lt}
 use native.Mathlib.Omega.{arith}
 use lib.Dec.{eqb}
 use lib.Bits.{bit_and, and_le_r}
 use lib.Count.{count_trailing_zeros}
-use lib.ListN.{length, take, drop, get_or, drop_of_length-le, length-take}
-use lib.Seq.{drop-cons, get_or-take, length-take-le}
+use lib.ListN.{length, take}
+use lib.Seq.{length-take-le}
 use borrow.Author.Tests.{eqb-false, eq-eqb, ne_eqb, not-true}
 use Rattle.rules.specs.Words.{any, each}
 use Rattle.rules.specs.Calls.{code_count}
@@ -22,16 +21,6 @@ use Rattle.code_sets.proofs.LowestLaws.{lowest_is}
 use Rattle.code_sets.proofs.ListedLaws.{has_listed, listed_has}
 use Rattle.cut_parts.specs.declared.Parts.{Parts}
 use Rattle.cut_parts.specs.Sets.{sets_of, lists_of, meets}
-
--- the sets from i on, where i is below their number
-pub rest : (sets : List ℕ) (n i : ℕ) → i < n → n ≤ length sets → drop i (take n sets) ≡ get_or sets i 0 ∷ drop (i + 1) (take n sets)
-rest sets n i low room =
-    drop-cons (take n sets) i 0 (omega (arith, length-take-le n sets room))
-    ∙ ap (λ (v : ℕ). v ∷ drop (suc i) (take n sets)) (get_or-take n sets i 0 low) ∙ ap (λ (k : ℕ). get_or sets i 0 ∷ drop k (take n sets)) (sym (add-one i))
-
--- and where it is not
-pub rest_none : (sets : List ℕ) (n i : ℕ) → n ≤ i → drop i (take n sets) ≡ []
-rest_none sets n i l = drop_of_length-le (take n sets) {i = i} (omega (arith, length-take n sets))
 
 pub meets_on : (row p : ℕ) → (bit_and p row ≡ 0 → ⊥) → meets row p ≡ true
 unfolding meets

@@ -1,8 +1,8 @@
 // Some sets of codes in order, as the parts of a cut.
 #![tactic(auto)]
 
-ghost use Rattle.std.specs.Prelude.{◌≡◌, [], ◌∷◌, ◌++◌, not, ◌&&◌, ℕ, ◌+◌, ◌≤◌, ◌<◌, take, drop};
-ghost use Rattle.rules.specs.Words.{any};
+ghost use Rattle.std.specs.Prelude.{◌≡◌, [], ◌∷◌, ◌++◌, Bool, not, ◌&&◌, ℕ, ◌+◌, ◌≤◌, ◌<◌, take, drop};
+ghost use Rattle.rules.specs.Words.{any, keep};
 ghost use Rattle.rules.specs.Calls.{code_count};
 ghost use Rattle.code_sets.specs.Bits.{has};
 ghost use Rattle.cut_parts.specs.Sets.{sets_of};
@@ -10,8 +10,8 @@ ghost use Rattle.cut_parts.specs.Sets.{sets_of};
 use code_sets::Bits;
 use rules::CODE_COUNT;
 
-// Some sets of codes in order, the first n of `sets`.
-#[derive(Clone, Copy)]
+// Some sets of codes in order, the first n of `sets`. A length beside its table: there is no heap, and memory is fixed.
+#[derive(Clone, Copy, Debug, PartialEq, Eq)]
 pub struct Parts {
     pub n: usize,
     pub sets: [Bits; CODE_COUNT],
@@ -33,30 +33,39 @@ impl Parts {
         requires { self.n < code_count }
         ensures { (result.n ≡ self.n + 1) × (sets_of result ≡ sets_of self ++ (part ∷ [])) }
     {
-        let n = self.n;
-        self.sets[n] = part;
-        self.n = n + 1;
+        self.sets[self.n] = part;
+        self.n += 1;
         self
+    }
+
+    // Those that pass a test stay, in their order.
+    pub fn retain<F: Fn(Bits) -> bool>(&mut self, test: F)
+        requires few { self.old.n ≤ code_count }
+        requires test { F.IsAlwaysCallable test }
+        ensures few { self.new.n ≤ self.old.n }
+        ensures kept { (p : ℕ → Bool) → ((x : ℕ) (b : Bool) → F.post test x b → b ≡ p x) → sets_of self.new ≡ keep p (sets_of self.old) }
+    {
+        let mut kept: usize = 0;
+        for i in 0..self.n {
+            let part = self.sets[i];
+            if test(part) {
+                self.sets[kept] = part;
+                kept += 1;
+            }
+        }
+        self.n = kept;
     }
 }
 
 // A part put at a place, the later ones one place on.
-pub fn inserted(parts: Parts, at: usize, part: Bits) -> Parts
+pub fn inserted(mut parts: Parts, at: usize, part: Bits) -> Parts
     requires { (parts.n < code_count) × (at ≤ parts.n) }
     ensures { (result.n ≡ parts.n + 1) × (sets_of result ≡ take at (sets_of parts) ++ (part ∷ drop at (sets_of parts))) }
 {
-    let n = parts.n;
-    let mut sets = parts.sets;
-    let mut hand = part;
-    let mut i = at;
-    while i < n {
-        let next = sets[i];
-        sets[i] = hand;
-        hand = next;
-        i += 1;
-    }
-    sets[n] = hand;
-    Parts { n: n + 1, sets }
+    let last = parts.n;
+    parts = parts.with(part);
+    parts.sets[at..=last].rotate_right(1);
+    parts
 }
 
 // The codes that stand in no part.
@@ -64,13 +73,9 @@ pub fn remaining(parts: Parts, codes: Bits) -> Bits
     requires { parts.n ≤ code_count }
     ensures { (c : ℕ) → has result c ≡ (has codes c && not (any (λ p. has p c) (sets_of parts))) }
 {
-    let n = parts.n;
-    let sets = parts.sets;
     let mut left = codes;
-    let mut i: usize = 0;
-    while i < n {
-        left &= !sets[i];
-        i += 1;
+    for part in &parts.sets[..parts.n] {
+        left &= !part;
     }
     left
 }

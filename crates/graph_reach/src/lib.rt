@@ -20,34 +20,25 @@ fn stepped(row: Bits, by: Bits, k: u8) -> Bits
 }
 
 // Every row by way of the code k.
-fn by_way(rows: [Bits; CODE_COUNT], k: u8) -> [Bits; CODE_COUNT]
+fn by_way(mut rows: [Bits; CODE_COUNT], k: u8) -> [Bits; CODE_COUNT]
     requires { k < code_count }
     ensures { (a b : ℕ) → edge_of result a b ≡ (edge_of rows a b || (edge_of rows a k && edge_of rows k b)) }
 {
-    let at = k as usize;
-    let by = rows[at];
-    let mut out = rows;
-    let mut i: usize = 0;
-    while i < CODE_COUNT {
-        out[i] = stepped(out[i], by, k);
-        i += 1;
+    let by = rows[k as usize];
+    for row in rows.iter_mut() {
+        *row = stepped(*row, by, k);
     }
-    out
+    rows
 }
 
 // Who reaches whom by one edge or more. No way leads on through a code whose row is empty.
-pub fn reach(rows: [Bits; CODE_COUNT]) -> [Bits; CODE_COUNT]
+pub fn reach(mut rows: [Bits; CODE_COUNT]) -> [Bits; CODE_COUNT]
     ensures { (a b : ℕ) → edge_of result a b ≡ through (from 0 code_count) (from 0 code_count) (edge_of rows) a b }
 {
-    let mut out = rows;
-    let mut k: u8 = NO_CODE;
-    while 0 < k {
-        k -= 1;
-        let at = k as usize;
-        if out[at] != 0 {
-            let next = by_way(out, k);
-            out = next;
+    for k in (0..NO_CODE).rev() {
+        if rows[k as usize] != 0 {
+            rows = by_way(rows, k);
         }
     }
-    out
+    rows
 }

@@ -1,49 +1,51 @@
--- The edges of a table turned, row by row and in a row from the lowest code on. Over any number of codes m.
-use mathlib.Core.Path.{◌≡◌, sym, ap, ap₂, ◌∙◌}
+-- The edges of a table turned, row by row and in a row code by code. Over any number of codes m.
+use mathlib.Core.Path.{◌≡◌, refl, sym, ap, ◌∙◌}
 use mathlib.Core.Logic.{⊎_elim}
-use mathlib.Core.List.{List}
-use mathlib.Core.Bool.{Bool, true, false, ◌||◌, ◌&&◌, not}
-use Prim.Native.Nat.{ℕ, ◌+◌, ◌-◌, ◌*◌, ◌%◌, ◌^◌, ◌≤◌, ◌<◌}
+use mathlib.Core.List.{List, [], ◌∷◌}
+use mathlib.Core.Bool.{Bool, true, false, ◌||◌, ◌&&◌}
+use Prim.Native.Nat.{ℕ, ◌+◌, ◌*◌, ◌%◌, ◌^◌, ◌≤◌, ◌<◌}
 use native.Mathlib.Omega.{arith}
 use borrow.Author.Tests.{eqb-true, eqb-false, lt-ltb, le-ltb}
 use lib.Dec.{eqb, ltb}
-use lib.Bits.{bit_and, bit_or}
-use lib.Count.{count_trailing_zeros}
+use lib.Bits.{bit_or}
 use lib.ListN.{length, get_or, set, replicate}
 use Rattle.rules.proofs.BoolLaws.{bool_cases, or_off}
-use Rattle.code_sets.specs.Bits.{has, least}
-use Rattle.code_sets.proofs.BitLaws.{has_zero, has_with, trailing_least, lt_or_le}
-use Rattle.code_sets.proofs.LowestLaws.{lowest_is, has_lowest}
+use Rattle.rules.specs.Words.{mem}
+use Rattle.code_sets.specs.Bits.{has, listed}
+use Rattle.code_sets.proofs.BitLaws.{has_with, lt_or_le}
+use Rattle.code_sets.proofs.ListedLaws.{mem_fits}
 use Rattle.graph_rows.specs.Edges.{edge_of}
 use Rattle.graph_rows.proofs.TableLaws.{edge_past, and_on, and_off, ltb_more}
 use Rattle.graph_rows.proofs.EdgeLaws.{edge_here, edge_other, edge_none}
 
--- the least code of a row is one of its codes
-pub least_below : (m left k : ℕ) → 0 < left → left < 2 ^ m → k ≡ least m (has left) → k < m
-least_below m left k p l e = omega (arith, (lowest_is m left p l).0, trailing_least m left)
+-- the edges to a code k and to later ones: those to k, and then the others
+apart : (e t r x : Bool) → (e || ((t || r) && x)) ≡ ((e || (t && x)) || (r && x))
+apart e t r false = rw (and_off (t || r), and_off t, and_off r) (sym (or_off (e || false)))
+apart e true r true = one e (r && true)
+  where
+    one : (a b : Bool) → (a || true) ≡ ((a || true) || b)
+    one true b = refl
+    one false b = refl
+apart e false r true = ap (λ (a : Bool). a || (r && true)) (sym (or_off e))
 
--- the edge to the least code k is turned: the others are left
-pub turned_more : (m : ℕ) (out : List ℕ) (left a k : ℕ) → length out ≡ m → a < m → 0 < left → left < 2 ^ m → k ≡ least m (has left) →
-    (c b : ℕ) → (edge_of out c b || (has left c && eqb b a)) ≡ (edge_of (set out k (bit_or (get_or out k 0) ((1 * 2 ^ a) % 2 ^ m))) c b || (has (bit_and left (left - 1)) c && eqb b a))
+-- the edge to the next code k is turned: the later ones are left
+pub turned_more : (m : ℕ) (out : List ℕ) (a k : ℕ) (now later : List ℕ) → a < m → k < length out → now ≡ k ∷ later →
+    (c b : ℕ) → (edge_of out c b || (mem c now && eqb b a)) ≡ (edge_of (set out k (bit_or (get_or out k 0) ((1 * 2 ^ a) % 2 ^ m))) c b || (mem c later && eqb b a))
 unfolding edge_of
-turned_more m out left a k size la p l e c b =
-    let lowest : k ≡ count_trailing_zeros m left = e ∙ sym (trailing_least m left) in
+turned_more m out a k now later la room e c b =
     let v = bit_or (get_or out k 0) ((1 * 2 ^ a) % 2 ^ m) in
-    let room : k < length out = omega (arith, least_below m left k p l e) in
-    let rest : has (bit_and left (left - 1)) c ≡ (has left c && not (eqb c k)) = has_lowest m left c p l ∙ ap (λ (i : ℕ). has left c && not (eqb c i)) (sym lowest) in
-    sym (⊎_elim
-    (λ (y : eqb c k ≡ true). let q : c ≡ k = eqb-true c k y in
-    let there : has left c ≡ true = ap (has left) (q ∙ lowest) ∙ (lowest_is m left p l).1 in
-    let gone : has (bit_and left (left - 1)) c ≡ false = rest ∙ rw (there, y) in
-    ap₂ (λ (s t : Bool). s || (t && eqb b a)) (edge_here out k v room c b y ∙ has_with m (get_or out k 0) a b la ∙ ap (λ (i : ℕ). has (get_or out i 0) b || eqb b a) (sym q)) gone
-    ∙ rw there (or_off (has (get_or out c 0) b || eqb b a)))
-    (λ (y : eqb c k ≡ false). let stays : has (bit_and left (left - 1)) c ≡ has left c = rest ∙ rw y (and_on (has left c)) in
-    ap₂ (λ (s t : Bool). s || (t && eqb b a)) (edge_other out k v room c b y) stays)
-    (bool_cases (eqb c k)))
+    let w : edge_of (set out k v) c b ≡ (edge_of out c b || (eqb c k && eqb b a)) =
+    ⊎_elim
+    (λ (y : eqb c k ≡ true). edge_here out k v room c b y ∙ has_with m (get_or out k 0) a b la ∙ ap (λ (i : ℕ). has (get_or out i 0) b || eqb b a) (sym (eqb-true c k y)) ∙ rw y refl)
+    (λ (y : eqb c k ≡ false). edge_other out k v room c b y ∙ rw y (sym (or_off (edge_of out c b))))
+    (bool_cases (eqb c k)) in
+    rw (e, w) (apart (edge_of out c b) (eqb c k) (mem c later) (eqb b a))
 
 -- no code is left
-pub turned_all : (out : List ℕ) (left a : ℕ) → ◌≡◌ {A = ℕ} left 0 → (c b : ℕ) → (edge_of out c b || (has left c && eqb b a)) ≡ edge_of out c b
-turned_all out left a e c b = ap (λ (t : Bool). edge_of out c b || (t && eqb b a)) (ap (λ (x : ℕ). has x c) e ∙ has_zero c) ∙ or_off (edge_of out c b)
+pub turned_all : (m : ℕ) (first out : List ℕ) (row a : ℕ) (left : List ℕ) → row < 2 ^ m → left ≡ [] →
+    ((c b : ℕ) → (edge_of first c b || (mem c (listed m row) && eqb b a)) ≡ (edge_of out c b || (mem c left && eqb b a))) → (c b : ℕ) → edge_of out c b ≡ (edge_of first c b || (has row c && eqb b a))
+turned_all m first out row a left l e h c b =
+    sym (ap (λ (t : Bool). edge_of first c b || (t && eqb b a)) (sym (mem_fits m row l c)) ∙ h c b ∙ ap (λ (xs : List ℕ). edge_of out c b || (mem c xs && eqb b a)) e ∙ or_off (edge_of out c b))
 
 -- no row is turned yet
 pub rows_none : (m : ℕ) (rows : List ℕ) (c b : ℕ) → edge_of (replicate m 0) c b ≡ (ltb b 0 && edge_of rows b c)

@@ -16,11 +16,8 @@ fn turned(out: &mut [Bits], row: Bits, a: u8)
     ensures { (c b : ℕ) → edge_of out.new c b ≡ (edge_of out.old c b || (has row c && eqb b a)) }
 {
     let bit: Bits = 1 << a;
-    let mut left = row;
-    while 0 < left {
-        let c = CodeSet { bits: left }.smallest() as usize;
-        out[c] |= bit;
-        left &= left - 1;
+    for c in (CodeSet { bits: row }).codes() {
+        out[c as usize] |= bit;
     }
 }
 
@@ -29,11 +26,8 @@ pub fn transpose(rows: [Bits; CODE_COUNT]) -> [Bits; CODE_COUNT]
     ensures { Back rows result }
 {
     let mut out: [Bits; CODE_COUNT] = [0; CODE_COUNT];
-    let mut a: u8 = 0;
-    while a < NO_CODE {
-        let row = rows[a as usize];
-        turned(&mut out, row, a);
-        a += 1;
+    for a in 0..NO_CODE {
+        turned(&mut out, rows[a as usize], a);
     }
     out
 }

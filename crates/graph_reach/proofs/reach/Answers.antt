@@ -11,27 +11,22 @@ use Rattle.graph_reach.proofs.reach.Goals as goal
 
 pub loop-k-init : goal.loop-k-init
 unfolding through
-loop-k-init c = (omega arith, owned c.args.rows _ c.well_formed.0, λ a b. refl)
+loop-k-init c = (owned c.args.rows _ c.well_formed.0, λ a b. refl)
 
-pub loop-k-preserved-then-out-at-ne0 : goal.loop-k-preserved-then-out-at-ne0
-loop-k-preserved-then-out-at-ne0 c = let rows = c.args.rows in
-    let l = c.loop-k in
-    let next = c.by_way-next.result in (
-      omega arith,
-      owned next _ c.by_way-next.type_inv,
-      through_turn code_count (edge_of rows) l.k (l.k - 1) (omega arith) l.invariant.0 (edge_of l.out) (edge_of next) (edge_below code_count l.out l.invariant.1) l.invariant.2 c.by_way-next.ensures,
+pub loop-k-preserved-then-rows-k-ne0 : goal.loop-k-preserved-then-rows-k-ne0
+loop-k-preserved-then-rows-k-ne0 c = let l = c.loop-k in
+    let next = c.by_way-rows in (
+      owned next.result _ next.type_inv,
+      through_turn code_count (edge_of c.args.rows) l.k (l.k - 1) (omega arith) (omega arith) (edge_of l.rows) (edge_of next.result) (edge_below code_count l.rows l.invariant.0) l.invariant.1 next.ensures,
     )
 
 pub loop-k-preserved : goal.loop-k-preserved
-loop-k-preserved c = let rows = c.args.rows in
-    let l = c.loop-k in (
-      omega arith,
-      l.invariant.1,
-      through_turn code_count (edge_of rows) l.k (l.k - 1) (omega arith) l.invariant.0 (edge_of l.out) (edge_of l.out) (edge_below code_count l.out l.invariant.1) l.invariant.2 (no_way l.out (l.k - 1) c.if-out-at-ne0.false),
-    )
+loop-k-preserved c = let l = c.loop-k in (
+  l.invariant.0,
+  through_turn code_count (edge_of c.args.rows) l.k (l.k - 1) (omega arith) (omega arith) (edge_of l.rows) (edge_of l.rows) (edge_below code_count l.rows l.invariant.0) l.invariant.1 (no_way l.rows (l.k - 1) c.if-rows-k-ne0.false),
+)
 
 pub returns : goal.returns
-returns c a b = let rows = c.args.rows in
-    let l = c.loop-k in
+returns c a b = let l = c.loop-k in
     let z : l.k ≡ 0 = omega arith in
-    l.invariant.2 a b ∙ ap (λ (k : ℕ). through (from 0 code_count) (from k (code_count - k)) (edge_of rows) a b) z
+    l.invariant.1 a b ∙ ap (λ (k : ℕ). through (from 0 code_count) (from k (code_count - k)) (edge_of c.args.rows) a b) z

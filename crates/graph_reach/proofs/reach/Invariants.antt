@@ -1,4 +1,4 @@
-use Prim.Native.Nat.{ℕ, ◌-◌, ◌≤◌}
+use Prim.Native.Nat.{ℕ, ◌-◌}
 use mathlib.Core.Path.{◌≡◌}
 use Rattle.rules.specs.Words.{from}
 use Rattle.rules.specs.Mining.{through}
@@ -8,7 +8,4 @@ use Rattle.graph_rows.proofs.TableLaws.{Table}
 use Rattle.graph_reach.proofs.reach.Given as goal
 
 abbrev pub invariant-loop-k : goal.invariant-loop-k
-invariant-loop-k l = (l.k ≤ code_count) × Table code_count l.out × ((a b : ℕ) → edge_of l.out a b ≡ through (from 0 code_count) (from l.k (code_count - l.k)) (edge_of l.initial.out) a b)
-
-abbrev pub decreases-loop-k : goal.decreases-loop-k
-decreases-loop-k l = l.k
+invariant-loop-k l = Table code_count l.rows × ((a b : ℕ) → edge_of l.rows a b ≡ through (from 0 code_count) (from l.k (code_count - l.k)) (edge_of l.initial.rows) a b)

@@ -7,15 +7,15 @@ use Rattle.graph_reverse.proofs.TurnedLaws.{rows_none, rows_more, rows_all}
 use Rattle.graph_reverse.proofs.transpose.Goals as goal
 
 pub loop-a-init : goal.loop-a-init
-loop-a-init c = (omega arith, refl, rows_none code_count c.args.rows)
+loop-a-init c = (refl, rows_none code_count c.args.rows)
 
 pub loop-a-preserved : goal.loop-a-preserved
 unfolding edge_of
 loop-a-preserved c = let l = c.loop-a in
     let more = c.turned in
-    (omega arith, more.auto.out ∙ l.invariant.1, rows_more c.args.rows l.out more.new.out l.a l.invariant.2 more.ensures)
+    (more.auto.out ∙ l.invariant.0, rows_more c.args.rows l.out more.new.out l.a l.invariant.1 more.ensures)
 
 pub returns : goal.returns
 returns c i b = let rows = c.args.rows in
     let l = c.loop-a in
-    l.invariant.2 i b ∙ rows_all rows l.a (omega (arith, (owned rows _ c.well_formed.0).size)) i b
+    l.invariant.1 i b ∙ rows_all rows l.a (omega (arith, (owned rows _ c.well_formed.0).size)) i b

@@ -1,4 +1,4 @@
-use Prim.Native.Nat.{ℕ, ◌-◌, ◌≤◌}
+use Prim.Native.Nat.{ℕ}
 use mathlib.Core.Path.{◌≡◌}
 use mathlib.Core.Bool.{◌&&◌}
 use lib.Dec.{ltb}
@@ -9,7 +9,4 @@ use Rattle.graph_reverse.proofs.transpose.Given as goal
 
 -- the edges of the rows below a are turned
 abbrev pub invariant-loop-a : goal.invariant-loop-a
-invariant-loop-a l = (l.a ≤ code_count) × (length l.out ≡ code_count) × ((c b : ℕ) → edge_of l.out c b ≡ (ltb b l.a && edge_of l.rows b c))
-
-abbrev pub decreases-loop-a : goal.decreases-loop-a
-decreases-loop-a l = code_count - l.a
+invariant-loop-a l = (length l.out ≡ code_count) × ((c b : ℕ) → edge_of l.out c b ≡ (ltb b l.a && edge_of l.rows b c))
