@@ -8,7 +8,7 @@ ghost use Rattle.judge_rows.specs.Rows.{at, after, joined_by, Loops, Says, Upper
 
 use rules::{Operator, PLACE_COUNT};
 
-// The union of the table's rows at the places of `left`.
+// The union of the table's rows at the places of `left`. A loop by hand: the iterator of `code_sets` goes over the codes of a set, and a row has places, twice as many.
 fn chain(left: u64, table: &[u64]) -> u64
     requires { 64 ≤ length table.now }
     ensures { (j : ℕ) → has result j ≡ after (has left) (at table.now) j }
@@ -24,16 +24,16 @@ fn chain(left: u64, table: &[u64]) -> u64
 }
 
 // The row `left` joined to row i of the table, as the children of this operator are.
+#[tactic(auto, using(code_sets::proofs::BitLaws::has_or, code_sets::proofs::BitLaws::has_and))]
 fn joined_row(operator: Operator, left: u64, i: usize, table: &[u64]) -> u64
     requires { (i < 64) × (64 ≤ length table.now) }
     ensures { (j : ℕ) → has result j ≡ joined_by (op_of operator) (has left) (at table.now) i j }
 {
     let right = table[i];
     match operator {
-        Operator::Choice => left | right,
         Operator::Sequence => chain(left, table),
         Operator::Parallel => left & right,
-        Operator::Loop => left | right,
+        Operator::Choice | Operator::Loop => left | right,
     }
 }
 
@@ -42,12 +42,13 @@ pub fn join_rows(operator: Operator, rows: &mut [u64], next: &[u64])
     requires { (length rows.old ≡ 64) × (length next.now ≡ 64) }
     ensures { (i j : ℕ) → at rows.new i j ≡ joined_by (op_of operator) (at rows.old i) (at next.now) i j }
 {
-    for i in 0..PLACE_COUNT {
-        rows[i] = joined_row(operator, rows[i], i, next);
+    for (i, row) in rows.iter_mut().enumerate() {
+        *row = joined_row(operator, *row, i, next);
     }
 }
 
 // A row, and another where the gate has place i.
+#[tactic(auto, using(code_sets::proofs::BitLaws::has_or), unfolding(code_sets::specs::Bits::has))]
 fn grown(row: u64, gate: u64, i: usize, by: u64) -> u64
     requires { i < 64 }
     ensures { (j : ℕ) → has result j ≡ (has row j || (has gate i && has by j)) }
@@ -63,9 +64,7 @@ pub fn loop_rows(a: &[u64], b: &[u64]) -> [u64; PLACE_COUNT]
 {
     let mut rows = [0u64; PLACE_COUNT];
     let mut tails = [0u64; PLACE_COUNT];
-    let mut i = PLACE_COUNT;
-    while 0 < i {
-        i -= 1;
+    for i in (0..PLACE_COUNT).rev() {
         let first = a[i];
         let redo = b[i];
         let past = chain(first, &tails);

@@ -55,12 +55,6 @@ module _ (R : List ℕ) (i v : ℕ) (l : i < length R) where
         (⊎_elim (λ e. at_here k j e) (λ (u : i < k). subst (P k j) (sym (at_other k j (λ e. omega arith))) (more k j (omega arith))))
         (three k i)
 
-    -- a table that is right below i, with row i stored, is right below i + 1
-    pub stored_up : ((k j : ℕ) → k < i → P k j (at R k j)) → (k j : ℕ) → k < i + 1 → P k j (at (set R i v) k j)
-    stored_up less k j g = ⊎_elim (λ u. subst (P k j) (sym (at_other k j (λ e. omega arith))) (less k j u))
-        (⊎_elim (λ e. at_here k j e) (λ u. absurd (omega arith)))
-        (three k i)
-
 -- where both sides have no row past 64, the rows below 64 say it all
 pub rows_all : (R : List ℕ) (S : ℕ → ℕ → Bool) → length R ≡ 64 → ((k j : ℕ) → 64 ≤ k → S k j ≡ false) → ((k j : ℕ) → k < 64 → at R k j ≡ S k j)
     → (k j : ℕ) → at R k j ≡ S k j

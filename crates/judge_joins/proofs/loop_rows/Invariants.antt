@@ -11,6 +11,3 @@ abbrev pub invariant-loop-i : goal.invariant-loop-i
 invariant-loop-i l = (l.i ≤ 64) × (length l.rows ≡ 64) × (length l.tails ≡ 64) × ((k j : ℕ) → k < l.i → at l.rows k j ≡ false) × ((k j : ℕ) → k < l.i → at l.tails k j ≡ false)
     × (Upper (at l.a) → Upper (at l.b) → (k j : ℕ) → l.i ≤ k → Says (at l.rows k j) (Loops (at l.a) (at l.b) k j))
     × (Upper (at l.a) → Upper (at l.b) → (k j : ℕ) → l.i ≤ k → Says (at l.tails k j) (Tail (at l.a) (at l.b) k j))
-
-abbrev pub decreases-loop-i : goal.decreases-loop-i
-decreases-loop-i l = l.i
