@@ -8,24 +8,14 @@ ghost use Rattle.code_sets.specs.Bits.{has};
 ghost use Rattle.judge_subtrees.specs.Entries.{labelled};
 
 use code_sets::CodeSet;
-use rules::{ACTIVITY, CHOICE, Operator, PARALLEL, SEQUENCE};
+use rules::{ACTIVITY, Operator};
 
 // The operator of the node at entry v.
 pub fn operator_at(tree: &[u8], v: usize) -> Operator
     requires { (v < entry_count) × (length tree.now ≡ 512) }
     ensures { op_of result ≡ operator_of (kind_at tree.now v) }
 {
-    let kind = tree[v * 4];
-    if kind == CHOICE {
-        return Operator::Choice;
-    }
-    if kind == SEQUENCE {
-        return Operator::Sequence;
-    }
-    if kind == PARALLEL {
-        return Operator::Parallel;
-    }
-    Operator::Loop
+    Operator::from(tree[v * 4])
 }
 
 // The number of entries of the tree at entry v.
@@ -37,6 +27,7 @@ pub fn size_at(tree: &[u8], v: usize) -> usize
 }
 
 // The codes of the leaves among n entries from v on.
+#[tactic(auto, using(code_sets::proofs::AnyLaws::any_more, code_sets::proofs::BitLaws::has_zero), unfolding(crate::specs::Entries::labelled, code_sets::specs::Bits::any_below))]
 pub fn codes_in(tree: &[u8], v: usize, n: usize) -> CodeSet
     requires { (v + n ≤ entry_count) × (length tree.now ≡ 512) }
     ensures { (c : ℕ) → has result.bits c ≡ labelled tree.now v n c }
