@@ -16,13 +16,14 @@ use Rattle.rules.specs.Refusals.{Given}
 use Rattle.rules.specs.LogBlock.{blocks_at, block_episodes, episodes_from, log_episodes, log_events, log_sized}
 use Rattle.rules.specs.Calls.{code_count, top_code, log_sound, log_reading}
 use Rattle.rules.specs.Filling.{block_at}
-use Rattle.rules.specs.declared.Answer.TheVariants.{Gives}
 use Rattle.rules.proofs.AnswerLaws.{given_is, demand_given}
 use Rattle.rules.proofs.ListLaws.{each_append}
 use Rattle.rules.proofs.LogSize.{Blocks, sized_blocks, blocks_sized}
 use Rattle.rules.proofs.Unions.{graph_joined}
 use Rattle.log_episodes.proofs.EpisodeLaws.{log_given, log_some}
 use Rattle.log_episodes.proofs.BlockWise.{Sound, episodes_step, split, same_front, blocks_sound, sound_blocks, sound_answer}
+use Rattle.std.specs.Prelude.{Ok}
+use Rattle.rules.specs.declared.Reason.TheVariants.{LogLength}
 
 -- ---- its blocks; a log of p blocks comes first
 
@@ -75,11 +76,11 @@ module _ (a b : List ℕ) (p : ℕ) (whole : length a ≡ p * 512) where
 -- ---- an accepted log: its length, its soundness, block by block too
 
 module _ (w : ℕ) (log : List ℕ) (accepted : Given (log_reading w log)) where
-  apart : (end : ℕ) × (log_sized log ≡ true) × (log_sound w log ≡ Gives end)
+  apart : (end : ℕ) × (log_sized log ≡ true) × (log_sound w log ≡ Ok end)
   unfolding log_reading
   apart =
       let is = given_is (log_reading w log) accepted in
-      let d = demand_given (log_sized log) 1 0 (log_sound w log) is.0 is.1 in
+      let d = demand_given (log_sized log) LogLength 0 (log_sound w log) is.0 is.1 in
       (is.0, d.0, d.1)
 
   blocks : Blocks log
@@ -89,7 +90,7 @@ module _ (w : ℕ) (log : List ℕ) (accepted : Given (log_reading w log)) where
   each_sound =
       let n : length log / 512 ≡ blocks.count = omega (arith, blocks.whole) in
       let end : ℕ = apart.0 in
-      sound_blocks w log blocks.count end (subst (λ (i : ℕ). blocks_at w top_code i log 0 ≡ Gives end) n (log_given w log end apart.2).0)
+      sound_blocks w log blocks.count end (subst (λ (i : ℕ). blocks_at w top_code i log 0 ≡ Ok end) n (log_given w log end apart.2).0)
 
 -- ---- two accepted logs
 
@@ -110,7 +111,7 @@ module _ (w : ℕ) (a b : List ℕ) (accepted-a : Given (log_reading w a)) (acce
   accepted_graph = ap (graph code_count) accepted_events ∙ graph_joined code_count (log_events w a) (log_events w b)
 
   -- THEOREM: where they make at most 16 blocks they are an accepted log
-  pub joined_accepted : 1 ≤ w → length a + length b ≤ 8192 → log_reading w (a ++ b) ≡ Gives (length (a ++ b))
+  pub joined_accepted : 1 ≤ w → length a + length b ≤ 8192 → log_reading w (a ++ b) ≡ Ok (length (a ++ b))
   unfolding log_reading
   joined_accepted g fits =
       let x = blocks w a accepted-a in
@@ -124,9 +125,9 @@ module _ (w : ℕ) (a b : List ℕ) (accepted-a : Given (log_reading w a)) (acce
       let whole : length (a ++ b) ≡ (p + q) * 512 = omega arith in
       let n : length (a ++ b) / 512 ≡ p + q = omega arith in
       let each = joined_blocks a b p la w q (each_sound w a accepted-a) (each_sound w b accepted-b) in
-      let all = subst (λ (i : ℕ). blocks_at w top_code i (a ++ b) 0 ≡ Gives ((p + q) * 512)) (sym n) (blocks_sound w (a ++ b) (p + q) each) in
+      let all = subst (λ (i : ℕ). blocks_at w top_code i (a ++ b) 0 ≡ Ok ((p + q) * 512)) (sym n) (blocks_sound w (a ++ b) (p + q) each) in
       let met = length-append (log_episodes w a) (log_episodes w b) in
       let one = log_some w a (apart w a accepted-a).0 g (apart w a accepted-a).2 in
       let episodes : 0 < length (log_episodes w (a ++ b)) = omega (arith, ap length accepted_episodes) in
       simp (blocks_sized (a ++ b) (record { count = p + q; whole = whole; some = omega arith; few = omega arith }))
-      (sound_answer w (a ++ b) ((p + q) * 512) g all ∙ simp (lt-ltb 0 (length (log_episodes w (a ++ b))) episodes) (ap Gives (sym whole)))
+      (sound_answer w (a ++ b) ((p + q) * 512) g all ∙ simp (lt-ltb 0 (length (log_episodes w (a ++ b))) episodes) (ap Ok (sym whole)))
