@@ -2,12 +2,10 @@
 use Prim.Native.Nat.{ℕ, ◌+◌}
 use native.Mathlib.Omega.{arith}
 use mathlib.Core.List.{List, [], ◌∷◌}
-use mathlib.Core.Logic.{inl, inr}
 use mathlib.Core.Path.{◌≡◌, refl, sym, ap, ◌∙◌, subst}
 use mathlib.Core.Bool.{Bool, true, false}
 use lib.Dec.{eqb}
-use types.Run.{OneOf, miss}
-use denote.Enum.Declared.{tag_of}
+use denote.Enum.Bare.{sameb}
 use Rattle.rules.specs.Words.{mem, Has}
 use Rattle.rules.specs.Trees.{Op, choice, sequence, parallel, loop, silent, leaf, node, Forest, none, more, sizes, labels_all, In, InOne, InRow, InLoop}
 use Rattle.rules.specs.WellFormed.{WellFormed}
@@ -29,25 +27,12 @@ use Rattle.judge_nodes.specs.Nodes.{NodeMeans}
 use Rattle.judge_subtrees.proofs.LabelLaws.{labelled_codes}
 use Rattle.judge_subtrees.proofs.EntryLaws.{children_formed}
 
--- which operators are left
-pub no_parallel : (p : Operator) → (p ≡ Parallel → ⊥) → OneOf (0 ∷ 1 ∷ 3 ∷ []) (tag_of the_type p)
-no_parallel Choice h = inl refl
-no_parallel Sequence h = inr (inl refl)
-no_parallel Parallel h = absurd (h refl)
-no_parallel Loop h = inr (inr refl)
-
-pub no_loop : (p : Operator) → (p ≡ Loop → ⊥) → OneOf (0 ∷ 1 ∷ 2 ∷ []) (tag_of the_type p)
-no_loop Choice h = inl refl
-no_loop Sequence h = inr (inl refl)
-no_loop Parallel h = inr (inr refl)
-no_loop Loop h = absurd (h refl)
-
--- any operator but a parallel
-pub against_all : (p : Operator) → OneOf (0 ∷ 1 ∷ 3 ∷ []) (tag_of the_type p) → (S : ℕ → Bool) (c : ℕ) → S c ≡ against (op_of p) S c
-against_all Choice k S c = refl
-against_all Sequence k S c = refl
-against_all Parallel k S c = absurd (miss (0 ∷ 1 ∷ 3 ∷ []) 2 tt k)
-against_all Loop k S c = refl
+-- the test for a loop
+is_loop : (p : Operator) → sameb the_type p Loop ≡ true → p ≡ Loop
+is_loop Choice h = cc
+is_loop Sequence h = cc
+is_loop Parallel h = cc
+is_loop Loop h = refl
 
 module _ (b e : List ℕ) (v : ℕ) (R : ℕ → ℕ → Bool) where
   pub silent_node : (S : ℕ → Bool) → kind_at b v ≡ 1 → ((c : ℕ) → S c ≡ false) → ((i j : ℕ) → R i j ≡ between (clear S) e i j) → NodeMeans b e v R
@@ -92,21 +77,21 @@ module _ (b e : List ℕ) (v : ℕ) (R : ℕ → ℕ → Bool) where
           means_set S (λ c. mem c (labels_all f)) L e R q (m (λ c h. q c ∙ has_mem c (labels_all f) h))
 
     -- any operator but a loop
-    pub list_node : (p : Operator) → OneOf (0 ∷ 1 ∷ 2 ∷ []) (tag_of the_type p) → op_of p ≡ operator_of (kind_at b v) → ((c : ℕ) → S c ≡ against (op_of p) (labelled b v n) c)
+    pub list_node : (p : Operator) → sameb the_type p Loop ≡ false → op_of p ≡ operator_of (kind_at b v) → ((c : ℕ) → S c ≡ against (op_of p) (labelled b v n) c)
         → ListMeans b e work (op_of p) S (v + 1) (v + n) R → NodeMeans b e v R
     unfolding ListMeans
     list_node Choice k is hS m = of_operator choice is (λ f held w. whole choice f held w (λ x. InOne f x) hS (λ s. m f held.1 (ends choice f held w) (children_formed code_count choice f w) s below))
     list_node Sequence k is hS m = of_operator sequence is (λ f held w. whole sequence f held w (λ x. InRow f x) hS (λ s. m f held.1 (ends sequence f held w) (children_formed code_count sequence f w) s below))
     list_node Parallel k is hS m = of_operator parallel is (λ f held w. m f held.1 (ends parallel f held w) (children_formed code_count parallel f w) hS below)
-    list_node Loop k is hS m = absurd (miss (0 ∷ 1 ∷ 2 ∷ []) 3 tt k)
+    list_node Loop k is hS m = cc
 
-    pub loop_node : (p : Operator) → p ≡ Loop → op_of p ≡ operator_of (kind_at b v) → ((c : ℕ) → S c ≡ against (op_of p) (labelled b v n) c)
+    pub loop_node : (p : Operator) → sameb the_type p Loop ≡ true → op_of p ≡ operator_of (kind_at b v) → ((c : ℕ) → S c ≡ against (op_of p) (labelled b v n) c)
         → LoopMeans b e work S (v + 1) (v + n) R → NodeMeans b e v R
     unfolding LoopMeans
-    loop_node p told is hS m = of_operator loop (sym (ap op_of told) ∙ is) go
+    loop_node p told is hS m = of_operator loop (sym (ap op_of (is_loop p told)) ∙ is) go
       where
         go : Rows loop
         go none held w = absurd w.wide.0
         go (more t f) held w =
-            whole loop (more t f) held w (λ x. InLoop (more t f) x) (λ c. hS c ∙ ap (λ (q : Operator). against (op_of q) (labelled b v n) c) told)
+            whole loop (more t f) held w (λ x. InLoop (more t f) x) (λ c. hS c ∙ ap (λ (q : Operator). against (op_of q) (labelled b v n) c) (is_loop p told))
             (λ s. m t f held.1 (ends loop (more t f) held w) (children_formed code_count loop (more t f) w) s below)

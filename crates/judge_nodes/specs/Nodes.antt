@@ -1,5 +1,5 @@
 -- A node's rows, and what is asked of a node.
-use Rattle.std.specs.Prelude.{ℕ, ◌+◌, ◌≤◌, List, Bool}
+use Rattle.std.specs.Prelude.{ℕ, ◌+◌, List, Bool}
 use Rattle.rules.specs.Words.{mem}
 use Rattle.rules.specs.Trees.{Tree, labels, In}
 use Rattle.rules.specs.WellFormed.{WellFormed}
@@ -7,14 +7,8 @@ use Rattle.rules.specs.TreeBlock.{size_at}
 use Rattle.rules.specs.Holds.{Holds}
 use Rattle.rules.specs.Calls.{code_count, entry_count}
 use Rattle.judge_meanings.specs.Means.{Means}
-use Rattle.judge_subtrees.specs.Entries.{Subtree, Subtrees, Sized}
+use Rattle.judge_subtrees.specs.Entries.{Subtree, Sized}
 use Rattle.judge_nodes.specs.Children.{Ready}
-
--- what a walk over children asks
-pub record Walk (b e work : List ℕ) (from end : ℕ) : Type 0 where
-  pub sized : Sized b e work
-  pub children : Subtrees b from end
-  pub few : end ≤ entry_count
 
 -- what a node asks: a tree at its entry, and the rows of the entries below it
 pub record Node (b e work : List ℕ) (v : ℕ) : Type 0 where

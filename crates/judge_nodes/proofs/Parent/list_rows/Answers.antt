@@ -4,27 +4,26 @@ use native.Mathlib.Omega.{arith}
 use Rattle.judge_rows.specs.Rows.{at}
 use Rattle.judge_subtrees.proofs.EntryLaws.{first_child, other_children}
 use Rattle.judge_nodes.proofs.ChildrenLaws.{walk_first, walk_step, walk_end}
-use Rattle.judge_nodes.proofs.list_rows.Goals as goal
+use Rattle.judge_nodes.proofs.Parent.list_rows.Goals as goal
 
-pub child_rows-own-requires : goal.child_rows-own-requires
-child_rows-own-requires c = let fits = first_child _ _ _ c.requires.0.children c.requires.1 in
-    (c.requires.0.sized, omega arith, omega arith)
+pub child_rows-rows-requires : goal.child_rows-rows-requires
+child_rows-rows-requires c = let fits = first_child _ _ _ c.requires.0 c.requires.2 in
+    (omega arith, omega arith)
 
 pub overflow_add-v : goal.overflow_add-v
-overflow_add-v c = omega (arith, first_child _ _ _ c.requires.0.children c.requires.1)
+overflow_add-v c = omega (arith, first_child _ _ _ c.requires.0 c.requires.2)
 
 pub loop-v-init : goal.loop-v-init
-loop-v-init c = let next = other_children _ _ _ c.requires.0.children c.requires.1 in (
+loop-v-init c = let next = other_children _ _ _ c.requires.0 c.requires.2 in (
   omega arith,
   search rules,
   rw c.size_at-first.ensures next,
-  walk_first _ _ _ _ _ _ _ _ _ c.requires.1 c.size_at-first.ensures c.child_rows-own.ensures,
+  walk_first _ _ _ _ _ _ _ _ _ c.requires.2 c.size_at-first.ensures c.child_rows-rows.ensures,
 )
 
 pub child_rows-child-requires : goal.child_rows-child-requires
-child_rows-child-requires c = let l = c.loop-v in
-    let fits = first_child _ _ _ l.invariant.2 (omega arith) in
-    (c.requires.0.sized, omega arith, omega arith)
+child_rows-child-requires c = let fits = first_child _ _ _ c.loop-v.invariant.2 (omega arith) in
+    (omega arith, omega arith)
 
 pub overflow_add-v-in-loop-v : goal.overflow_add-v-in-loop-v
 overflow_add-v-in-loop-v c = omega (arith, first_child _ _ _ c.loop-v.invariant.2 (omega arith))
@@ -39,7 +38,7 @@ loop-v-preserved c = let l = c.loop-v in
       omega arith,
       search rules,
       rw c.size_at-n.ensures next,
-      walk_step _ _ _ _ _ _ _ _ _ (at l.rows) (at c.child_rows-child.result) (at c.join_rows.new.rows) c.requires.0.sized.short l.invariant.0 before
+      walk_step _ _ _ _ _ _ _ _ _ (at l.rows) (at c.child_rows-child.result) (at c.join_rows.new.rows) c.args.self.now.sized.short l.invariant.0 before
           c.size_at-n.ensures c.child_rows-child.ensures c.join_rows.ensures l.invariant.3,
     )
 
