@@ -1,13 +1,13 @@
 -- The verdict, off the root's first row.
-use Prim.Native.Nat.{ℕ, suc, ◌+◌, ◌<◌}
+use Prim.Native.Nat.{ℕ, ◌<◌}
 use native.Mathlib.Nat.{le_refl}
-use native.Mathlib.Numerals.{add-one}
 use native.Mathlib.Omega.{arith}
-use mathlib.Core.List.{List}
-use mathlib.Core.Path.{◌≡◌, sym, ap, ◌∙◌, subst}
+use mathlib.Core.List.{List, [], ◌∷◌}
+use mathlib.Core.Path.{◌≡◌, refl, sym, ap, ◌∙◌, subst}
 use mathlib.Core.Bool.{Bool, true, false, ◌&&◌, false≢true}
-use lib.ListN.{length, get_or, drop}
-use lib.Seq.{slice, take-length, drop-cons}
+use lib.ListN.{length, get_or}
+use lib.Seq.{slice, take-length}
+use Rattle.std.specs.List.{list_all}
 use Rattle.rules.specs.Words.{keep, mem, all, Has}
 use Rattle.rules.specs.Trees.{Tree, size, labels, In}
 use Rattle.rules.specs.WellFormed.{WellFormed}
@@ -26,9 +26,10 @@ use Rattle.judge_fits.specs.Fits.{FitSays}
 use Rattle.judge_subtrees.proofs.EntryLaws.{size_some}
 use Rattle.judge_subtrees.proofs.LabelLaws.{labelled_codes}
 
--- a test of every event from i on, where event i is known
-pub all_rest : (p : ℕ → Bool) (e : List ℕ) (i : ℕ) (t : Bool) → i < length e → p (get_or e i 0) ≡ t → all p (drop i e) ≡ (t && all p (drop (i + 1) e))
-all_rest p e i t l h = ap (all p) (drop-cons e i 0 l) ∙ ap (λ (b : Bool). b && all p (drop (suc i) e)) h ∙ ap (λ (m : ℕ). t && all p (drop m e)) (sym (add-one i))
+-- the test of every event
+pub all_is : (p : ℕ → Bool) (e : List ℕ) → list_all p e ≡ all p e
+all_is p [] = refl
+all_is p (c ∷ e) = ap (λ (b : Bool). p c && b) (all_is p e)
 
 -- rows that mean the tree tell whether it has an episode of its own codes
 whole_says : (S : ℕ → Bool) (t : Tree) (e : List ℕ) (R : ℕ → ℕ → Bool) → ((c : ℕ) → Has c e → S c ≡ true) → Means S (λ w. In t w) e R → Says (R 0 (length e)) (In t e)

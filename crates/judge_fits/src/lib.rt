@@ -27,52 +27,20 @@ fn fill(tree: &[u8], n: usize, episode: &[u8], work: &mut [u64])
     requires { Nodes tree.now episode.now work.old n }
     ensures { Ready tree.now episode.now work.new 0 n × (drop 8128 work.new ≡ drop 8128 work.old) }
 {
-    let mut v = n;
-    while 1 < v {
-        v -= 1;
+    for v in (1..n).rev() {
         place_rows(tree, v, episode, work);
     }
     place_rows(tree, 0, episode, work);
 }
 
-// Whether every code of the episode is one of these.
-fn only(episode: &[u8], codes: CodeSet) -> bool
-    ensures { result ≡ all (has codes.bits) episode.now }
-{
-    let mut i = 0;
-    while i < episode.len() {
-        if !codes.has(episode[i]) {
-            return false;
-        }
-        i += 1;
-    }
-    true
-}
-
-// The numbers that judging uses become zero.
-fn wipe(work: &mut [u64])
-    requires { 8128 ≤ length work.old }
-    ensures { work.new ≡ cleared 8128 work.old }
-{
-    let mut i = 0;
-    while i < JUDGE_WORK {
-        work[i] = 0;
-        i += 1;
-    }
-}
-
-// Whether the tree of n entries has the episode: a code that no leaf has is a misfit.
+// Whether the tree of n entries has the episode: a code that no leaf has is a misfit. The numbers of work that judging uses become zero.
 pub fn fits(tree: &[u8], n: usize, episode: &[u8], work: &mut [u64]) -> bool
     requires { Nodes tree.now episode.now work.old n }
     ensures { FitSays tree.now n episode.now result × (work.new ≡ cleared 8128 work.old) }
 {
     fill(tree, n, episode, work);
     let whole = work[0];
-    wipe(work);
+    work[..JUDGE_WORK].fill(0);
     let codes = judge_subtrees::codes_in(tree, 0, n);
-    if only(episode, codes) {
-        let end = episode.len();
-        return (whole >> end) % 2 == 1;
-    }
-    false
+    episode.iter().all(|&c| codes.has(c)) && (whole >> episode.len()) % 2 == 1
 }
