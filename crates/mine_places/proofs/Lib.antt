@@ -1,3 +1,4 @@
 pub mod ListLaws
 pub mod PassLaws
 pub mod EventLaws
+pub mod StepLaws

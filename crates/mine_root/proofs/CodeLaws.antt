@@ -1,33 +1,45 @@
 -- What each turn of a loop over one record's events keeps of the codes that occur.
 use mathlib.Core.Path.{◌≡◌, refl, sym, ◌∙◌, ap}
-use mathlib.Core.List.{List}
+use mathlib.Core.List.{List, [], ◌∷◌}
 use mathlib.Core.Bool.{Bool, true, false, not, ◌&&◌, ◌||◌}
-use Prim.Native.Nat.{ℕ, ◌+◌, ◌<◌, ◌≤◌, ◌-◌, ◌^◌}
+use Prim.Native.Nat.{ℕ, ◌<◌, ◌-◌, ◌^◌}
 use lib.Dec.{eqb, ltb}
-use lib.ListN.{length, get_or, drop}
 use borrow.Author.Tests.{lt-ltb}
-use Rattle.rules.specs.Words.{mem}
+use Rattle.std.specs.List.{list_all}
+use Rattle.rules.specs.Words.{mem, keep, push}
 use Rattle.rules.specs.Heartbeats.{heartbeat, without_heartbeats}
+use Rattle.rules.specs.Mining.{is_empty}
 use Rattle.rules.specs.Calls.{code_count}
 use Rattle.rules.proofs.BoolLaws.{or_off, or_assoc, and_drop}
 use Rattle.rules.proofs.ListLaws.{mem_has}
 use Rattle.rules.proofs.HeartbeatLaws.{mem_without}
 use Rattle.code_sets.specs.Bits.{has}
 use Rattle.code_sets.proofs.BitLaws.{has_every}
-use Rattle.mine_places.specs.Places.{codes_of, All}
-use Rattle.mine_places.proofs.ListLaws.{all_has, codes_next, codes_end}
+use Rattle.mine_places.specs.Places.{All}
+use Rattle.mine_places.proofs.ListLaws.{all_has}
 
 -- before the first event: every code of the record is one of the codes
 pub met_first : (k : ℕ) (codes : List ℕ) → All (λ c. c < code_count) codes → (j : ℕ) → (has k j || (ltb j code_count && mem j codes)) ≡ (has k j || mem j codes)
 met_first k codes all j =
     ap (◌||◌ (has k j)) (and_drop (ltb j code_count) (mem j codes) (λ e. lt-ltb j code_count (all_has (λ c. c < code_count) codes all j (mem_has j codes e))))
 
-module _ (w : ℕ) (some : 1 ≤ w) (s : List ℕ) (i k : ℕ) (a : ℕ → Bool) (inv : (j : ℕ) → a j ≡ (has k j || mem j (codes_of w (drop i s)))) where
-  pub met_next : i < length s → (r : ℕ) → ((j : ℕ) → has r j ≡ (has k j || eqb j (get_or s i 0))) → (j : ℕ) → a j ≡ (has r j || mem j (codes_of w (drop (i + w) s)))
-  met_next h r e j = rw (e j, or_assoc) (rw (codes_next w some s i h) at (inv j))
+-- the codes that are left, and those that were met
+module _ (k : ℕ) (a : ℕ → Bool) (left : List ℕ) (inv : (j : ℕ) → a j ≡ (has k j || mem j left)) where
+  pub met_next : (c : ℕ) (rest : List ℕ) → left ≡ c ∷ rest → (r : ℕ) → ((j : ℕ) → has r j ≡ (has k j || eqb j c)) → (j : ℕ) → a j ≡ (has r j || mem j rest)
+  met_next c rest f r e j = rw (e j, or_assoc) (rw f at (inv j))
 
-  pub met_end : length s ≤ i → (j : ℕ) → has k j ≡ a j
-  met_end h j = sym (rw (codes_end w some s i h, or_off) at (inv j))
+  pub met_end : left ≡ [] → (j : ℕ) → has k j ≡ a j
+  met_end f j = sym (rw (f, or_off) at (inv j))
+
+-- all of them are heartbeats
+pub all_beats : (codes : List ℕ) → list_all (λ c. eqb c heartbeat) codes ≡ is_empty (without_heartbeats codes)
+unfolding without_heartbeats
+all_beats [] = refl
+all_beats (c ∷ codes) = by (eqb c heartbeat) (all_beats codes)
+  where
+    by : (b : Bool) → list_all (λ c. eqb c heartbeat) codes ≡ is_empty (keep (λ c. not (eqb c heartbeat)) codes) → (b && list_all (λ c. eqb c heartbeat) codes) ≡ is_empty (push (not b) c (keep (λ c. not (eqb c heartbeat)) codes))
+    by true e = e
+    by false e = refl
 
 -- the heartbeat set aside
 module _ (k r : ℕ) (codes : List ℕ) where

@@ -1,14 +1,14 @@
 -- Laws of the root's view: what each episode adds, and that it shows the whole log.
-use mathlib.Core.Path.{◌≡◌, refl, sym, ◌∙◌, ap}
+use mathlib.Core.Path.{◌≡◌, sym, ◌∙◌, ap}
 use mathlib.Core.List.{List, [], ◌∷◌, ◌++◌}
-use mathlib.Core.Bool.{Bool, true, false, not, ◌&&◌, ◌||◌}
+use mathlib.Core.Bool.{Bool, false, not, ◌&&◌, ◌||◌}
 use Prim.Native.Nat.{ℕ}
 use lib.Dec.{eqb, ltb}
 use Rattle.rules.specs.Words.{any, each, mem}
 use Rattle.rules.specs.Heartbeats.{heartbeat, without_heartbeats}
 use Rattle.rules.specs.Mining.{Episode, Log, is_empty}
 use Rattle.rules.specs.Calls.{code_count}
-use Rattle.rules.proofs.BoolLaws.{or_off, or_right, or_assoc, more_none, more_twice}
+use Rattle.rules.proofs.BoolLaws.{or_off, or_assoc, more_none, more_twice}
 use Rattle.rules.proofs.ListLaws.{any_append, each_append}
 use Rattle.code_sets.specs.Bits.{has}
 use Rattle.code_sets.proofs.BitLaws.{has_zero}
@@ -37,16 +37,10 @@ module _ (w k r : ℕ) (breaks : Set) (bare : Bool) (s : List ℕ) (h : (j : ℕ
   kept_one : (c : ℕ) → (has r c && not (eqb c heartbeat)) ≡ ((has k c && not (eqb c heartbeat)) || (ltb c code_count && (mem c (without_heartbeats (codes_of w s)) || false)))
   kept_one c = rw (h c, or_off (mem c (without_heartbeats (codes_of w s))))
 
-  -- it has no events, or some
-  pub widened_bare : true ≡ is_empty (without_heartbeats (codes_of w s)) →
-      quietly (record { kept = has r; breaks = breaks; bare = true }) ≡ widened (quietly (record { kept = has k; breaks = breaks; bare = bare })) (codes_of w s ∷ [])
+  pub widened_one : (now : Bool) → now ≡ (bare || is_empty (without_heartbeats (codes_of w s))) →
+      quietly (record { kept = has r; breaks = breaks; bare = now }) ≡ widened (quietly (record { kept = has k; breaks = breaks; bare = bare })) (codes_of w s ∷ [])
   unfolding widened
-  widened_bare e = λ i. record { kept = λ c. kept_one c i; breaks = breaks; bare = (sym (or_right bare true refl) ∙ ap (λ (t : Bool). bare || (t || false)) e) i }
-
-  pub widened_full : false ≡ is_empty (without_heartbeats (codes_of w s)) →
-      quietly (record { kept = has r; breaks = breaks; bare = bare }) ≡ widened (quietly (record { kept = has k; breaks = breaks; bare = bare })) (codes_of w s ∷ [])
-  unfolding widened
-  widened_full e = λ i. record { kept = λ c. kept_one c i; breaks = breaks; bare = (sym (or_off bare) ∙ ap (λ (t : Bool). bare || (t || false)) e) i }
+  widened_one now e = λ i. record { kept = λ c. kept_one c i; breaks = breaks; bare = (e ∙ ap (◌||◌ bare) (sym (or_off (is_empty (without_heartbeats (codes_of w s)))))) i }
 
 -- from nothing on
 pub widened_root : (k b : ℕ) (l : Log) → k ≡ 0 → b ≡ 0 → root_sight code_count (each without_heartbeats l) ≡ widened (quietly (record { kept = has k; breaks = has b; bare = false })) l
@@ -58,8 +52,3 @@ widened_root k b l e f =
       breaks = λ c. sym (has_zero c) i;
       bare = any is_empty (each without_heartbeats l);
     })
-
--- without the heartbeat
-pub quiet_sight : (k o r : ℕ) (breaks : Set) (bare : Bool) → ((j : ℕ) → has o j ≡ (ltb heartbeat code_count && eqb j heartbeat)) → ((j : ℕ) → has r j ≡ (has k j && not (has o j))) →
-    ◌≡◌ {A = Sight} (record { kept = has r; breaks = breaks; bare = bare }) (quietly (record { kept = has k; breaks = breaks; bare = bare }))
-quiet_sight k o r breaks bare one less = λ i. record { kept = λ c. (less c ∙ ap (λ (t : Bool). has k c && not t) (one c)) i; breaks = breaks; bare = bare }

@@ -25,10 +25,8 @@ fn met_codes(events: &[u8], w: usize, keep: CodeSet) -> CodeSet
         return keep;
     }
     let mut k = keep;
-    let mut i: usize = 0;
-    while i < events.len() {
-        k = k.with_code(events[i]);
-        i += w;
+    for &c in events.iter().step_by(w) {
+        k = k.with_code(c);
     }
     k
 }
@@ -38,14 +36,7 @@ fn eventless(events: &[u8], w: usize) -> bool
     requires { Events w events.now }
     ensures { result ≡ is_empty (without_heartbeats (codes_of w events.now)) }
 {
-    let mut i: usize = 0;
-    while i < events.len() {
-        if events[i] != HEARTBEAT {
-            return false;
-        }
-        i += w;
-    }
-    true
+    events.iter().step_by(w).all(|c| *c == HEARTBEAT)
 }
 
 // The root's view with one more episode.
@@ -53,20 +44,10 @@ fn root_codes(events: &[u8], w: usize, v: View) -> View
     requires { Events w events.now }
     ensures { quietly (sight result) ≡ widened (quietly (sight v)) (codes_of w events.now ∷ []) }
 {
-    let before = v.keep;
-    let breaks = v.breaks;
-    let keep = met_codes(events, w, before);
-    if eventless(events, w) {
-        return View {
-            keep,
-            breaks,
-            bare: true,
-        };
-    }
     View {
-        keep,
-        breaks,
-        bare: v.bare,
+        keep: met_codes(events, w, v.keep),
+        bare: v.bare || eventless(events, w),
+        ..v
     }
 }
 
@@ -80,12 +61,10 @@ pub fn root_of(log: &[u8], places: &[u8], w: usize) -> View
         breaks: CodeSet::none(),
         bare: false,
     };
-    let mut i: usize = 0;
-    while i < places.len() / 2 {
+    for i in 0..places.len() / 2 {
         let at = mine_places::place_at(places, 2 * i);
         let events = mine_places::events_at(log, at, w);
         v = root_codes(events, w, v);
-        i += 1;
     }
     v
 }
@@ -94,12 +73,8 @@ pub fn root_of(log: &[u8], places: &[u8], w: usize) -> View
 pub fn quiet(v: View) -> View
     ensures { sight result ≡ quietly (sight v) }
 {
-    let met = v.keep;
-    let breaking = v.breaks;
-    let keep = met.minus(CodeSet::one(HEARTBEAT));
     View {
-        keep,
-        breaks: breaking,
-        bare: v.bare,
+        keep: v.keep.minus(CodeSet::one(HEARTBEAT)),
+        ..v
     }
 }

@@ -1,11 +1,8 @@
-use mathlib.Core.Path.{sym, ◌∙◌}
-use Rattle.mine_root.proofs.RootLaws.{widened_bare, widened_full}
+use mathlib.Core.Path.{◌∙◌}
+use Rattle.mine_root.proofs.RootLaws.{widened_one}
 use Rattle.mine_root.proofs.root_codes.Goals as goal
-
-pub returns-then-eventless : goal.returns-then-eventless
-returns-then-eventless c = let a = c.args in
-    widened_bare a.w _ _ _ _ a.events.now c.met_codes-keep.ensures (sym c.if-eventless.true ∙ c.eventless.ensures)
+use Rattle.mine_root.proofs.root_codes.Goals.{then-v, else-v}
 
 pub returns : goal.returns
 returns c = let a = c.args in
-    widened_full a.w _ _ _ _ a.events.now c.met_codes-keep.ensures (sym c.if-eventless.false ∙ c.eventless.ensures)
+    widened_one a.w _ _ _ _ a.events.now c.met_codes.ensures _ (elim c.if-v.branch [ then-v w ↦ rw w.if-v.true (w.result-is ∙ w.if-v.true) | else-v w ↦ rw w.if-v.false (w.result-is ∙ w.eventless.ensures) ])

@@ -1,6 +1,6 @@
 use mathlib.Core.Path.{◌≡◌}
-use Prim.Native.Nat.{◌*◌, ◌-◌, ◌≤◌}
-use lib.ListN.{length, drop}
+use Prim.Native.Nat.{◌*◌}
+use lib.ListN.{drop}
 use Rattle.rules.specs.Words.{each}
 use Rattle.rules.specs.Heartbeats.{without_heartbeats}
 use Rattle.rules.specs.Calls.{code_count}
@@ -10,7 +10,4 @@ use Rattle.mine_root.specs.Widened.{quietly, widened}
 use Rattle.mine_root.proofs.root_of.Given as goal
 
 abbrev pub invariant-loop-i : goal.invariant-loop-i
-invariant-loop-i l = All (Recorded l.w l.log) (places_in (drop (2 * l.i) l.places)) × (root_sight code_count (each without_heartbeats (episodes_of l.w l.log l.places)) ≡ widened (quietly (sight l.v)) (each (episode_of l.w l.log) (places_in (drop (2 * l.i) l.places)))) × (l.i ≤ length l.places)
-
-abbrev pub decreases-loop-i : goal.decreases-loop-i
-decreases-loop-i l = length l.places - l.i
+invariant-loop-i l = All (Recorded l.w l.log) (places_in (drop (2 * l.i) l.places)) × (root_sight code_count (each without_heartbeats (episodes_of l.w l.log l.places)) ≡ widened (quietly (sight l.v)) (each (episode_of l.w l.log) (places_in (drop (2 * l.i) l.places))))
