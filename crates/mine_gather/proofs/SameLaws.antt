@@ -1,43 +1,45 @@
--- Two records compared code by code, or event by event: where all that is left is the same, so is the whole.
-use mathlib.Core.Path.{◌≡◌, sym, ◌∙◌}
-use mathlib.Core.List.{List, ◌∷◌}
-use Prim.Native.Nat.{ℕ, ◌+◌, ◌≤◌, ◌<◌}
-use lib.ListN.{length, get_or, drop}
+-- Two iterators whose items are the same one after another: the lists that they give are the same.
+use mathlib.Core.Path.{◌≡◌, refl, sym, ap, subst, ◌∙◌}
+use mathlib.Core.List.{List, [], ◌∷◌, map}
+use mathlib.Core.Bool.{Bool, true, false, true≢false, cond, not}
+use Prim.Native.Nat.{ℕ}
+use lib.Dec.{eqb}
+use denote.Ref.{Bor}
+use borrow.Author.Tests.{eqb-true}
+use Rattle.std.specs.Prelude.{Option, None, Some}
+use Rattle.std.specs.Option.{MatchOption, IfSome}
+use Rattle.std.specs.List.{AllZip, filter}
+use Rattle.std.specs.Iterator.{Yields, YieldsThen, ComparesItemsByEq}
+use Rattle.std.proofs.lemmas.Iterator.{YieldsList, items_from_drains}
+use Rattle.rules.specs.Words.{push}
 use Rattle.rules.specs.Heartbeats.{heartbeat, without_heartbeats}
-use Rattle.mine_places.specs.Places.{codes_of}
-use Rattle.mine_places.proofs.ListLaws.{codes_next, codes_end}
-use Rattle.mine_places.proofs.EventLaws.{events_from, event_next, event_end}
-use Rattle.mine_gather.specs.Gathering.{NextEvent}
 
-module _ (w : ℕ) (some : 1 ≤ w) (a b : List ℕ) (i : ℕ) (inv : codes_of w (drop i a) ≡ codes_of w (drop i b) → codes_of w a ≡ codes_of w b) where
-  pub same_next : i < length a → i < length b → get_or a i 0 ≡ get_or b i 0 → codes_of w (drop (i + w) a) ≡ codes_of w (drop (i + w) b) → codes_of w a ≡ codes_of w b
-  same_next h g e f = inv (codes_next w some a i h ∙ (λ j. e j ∷ f j) ∙ sym (codes_next w some b i g))
+abbrev Equal : Bor ℕ → Bor ℕ → Bool
+Equal x y = eqb x.now y.now
 
-  pub same_end : length a ≤ i → length b ≤ i → codes_of w a ≡ codes_of w b
-  same_end h g = inv (codes_end w some a i h ∙ sym (codes_end w some b i g))
+same_items : (xs ys : List (Bor ℕ)) → AllZip (λ x y. Equal x y ≡ true) xs ys → map (λ x. x.now) xs ≡ map (λ x. x.now) ys
+same_items [] [] z = refl
+same_items [] (y ∷ ys) z = absurd z
+same_items (x ∷ xs) [] z = absurd z
+same_items (x ∷ xs) (y ∷ ys) z = (λ i. eqb-true x.now y.now z.0 i ∷ same_items xs ys z.1 i)
 
--- ---- events alone
+module _ {S T : Type 0} {steps : S → Option (Bor ℕ) → S → Type 0} {others : T → Option (Bor ℕ) → T → Type 0} {s : S} {t : T} {r : Bool} {xs ys : List ℕ} where
+  pub same_from_eq : ComparesItemsByEq steps (λ x y. y ≡ x) others s t Equal r → YieldsList steps (λ x. x.now) s xs → YieldsList others (λ x. x.now) t ys → r ≡ true → xs ≡ ys
+  same_from_eq c y z e = by c.3 c.4 c.8 c.9 c.11
+    where
+      by : (o p : Option (Bor ℕ)) → YieldsThen steps s c.1 o c.5 → YieldsThen others c.0 c.2 p c.6 → MatchOption o (MatchOption p (r ≡ true) (λ _. r ≡ false)) (λ x. (r ≡ false) × IfSome p (λ y. Equal x y ≡ false)) → xs ≡ ys
+      by None None g h l =
+          sym (items_from_drains c.1 (g.0, g.1, λ _. (c.5, g.2)) y) ∙ same_items c.1 c.2 c.10
+          ∙ items_from_drains c.2 (h.0, subst (λ (u : T). Yields others u c.2 h.0) c.7 h.1, λ _. (c.6, h.2)) z
+      by None (Some b) g h l = absurd (true≢false (sym e ∙ l))
+      by (Some a) p g h l = absurd (true≢false (sym e ∙ l.0))
 
--- two records compared up to an event of each: where the rest is the same, so is the whole
-pub record Compared (w : ℕ) (a b : List ℕ) (i j : ℕ) : Type 0 where
-  pub rest : events_from w a i ≡ events_from w b j → without_heartbeats (codes_of w a) ≡ without_heartbeats (codes_of w b)
-  pub left : i < length a → get_or a i 0 ≡ heartbeat → ⊥
-  pub right : j < length b → get_or b j 0 ≡ heartbeat → ⊥
-
-module _ (w : ℕ) (some : 1 ≤ w) (a b : List ℕ) where
-  pub compare_start : (i j : ℕ) → NextEvent w a 0 i → NextEvent w b 0 j → Compared w a b i j
-  compare_start i j x y = record { rest = λ e. sym x.same ∙ e ∙ y.same; left = x.event; right = y.event }
-
-  module _ (i j : ℕ) (c : Compared w a b i j) where
-    pub compare_next : i < length a → j < length b → get_or a i 0 ≡ get_or b j 0 → (k n : ℕ) → NextEvent w a (i + w) k → NextEvent w b (j + w) n → Compared w a b k n
-    compare_next h g e k n x y =
-        record {
-          rest = λ f.
-              let tail = sym x.same ∙ f ∙ y.same in
-              c.rest (event_next w some a i h (c.left h) ∙ (λ z. e z ∷ tail z) ∙ sym (event_next w some b j g (c.right g)));
-          left = x.event;
-          right = y.event;
-        }
-
-    pub compare_end : length a ≤ i → length b ≤ j → without_heartbeats (codes_of w a) ≡ without_heartbeats (codes_of w b)
-    compare_end h g = c.rest (event_end w some a i h ∙ sym (event_end w some b j g))
+-- the codes other than the heartbeat, as a chain leaves them
+pub filter_without : (codes : List ℕ) → filter (λ c. not (eqb c heartbeat)) codes ≡ without_heartbeats codes
+unfolding without_heartbeats
+filter_without [] = refl
+filter_without (c ∷ codes) = by (not (eqb c heartbeat)) (filter_without codes)
+  where
+    by : (b : Bool) {xs ys : List ℕ} → xs ≡ ys → cond b (c ∷ xs) xs ≡ push b c ys
+    by true e = ap (λ (l : List ℕ). c ∷ l) e
+    by false e = e

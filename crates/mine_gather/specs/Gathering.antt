@@ -1,7 +1,7 @@
 -- What gathering leaves in the work, said of the set of episodes alone, heartbeats left out: which of two equal records is listed, and in which slot its hint stands, is told nowhere.
 use Rattle.std.specs.Prelude.{◌≡◌, List, [], ◌∷◌, ◌++◌, ℕ, ◌+◌, ◌*◌, ◌%◌, ◌/◌, ◌≤◌, ◌<◌, length, get_or, take, drop}
 use Rattle.rules.specs.Words.{Has, each}
-use Rattle.rules.specs.Heartbeats.{heartbeat, without_heartbeats}
+use Rattle.rules.specs.Heartbeats.{without_heartbeats}
 use Rattle.rules.specs.LogBlock.{log_events}
 use Rattle.rules.specs.Mining.{Episode, Log}
 use Rattle.rules.proofs.SameEpisodes.{Same}
@@ -32,12 +32,6 @@ pub record Lists (w : ℕ) (log : List ℕ) (n : ℕ) (work : List ℕ) : Type 0
 -- a number as two bytes, the lower first
 abbrev pub as_bytes : ℕ → List ℕ
 as_bytes n = n % 256 ∷ n / 256 ∷ []
-
--- the first event from a byte on, or none: heartbeats alone lie before it
-pub record NextEvent (w : ℕ) (s : List ℕ) (from r : ℕ) : Type 0 where
-  pub on : from ≤ r
-  pub same : without_heartbeats (codes_of w (drop r s)) ≡ without_heartbeats (codes_of w (drop from s))
-  pub event : r < length s → get_or s r 0 ≡ heartbeat → ⊥
 
 -- what looking for an episode finds: it is listed, with these heartbeats or others; or a slot, which is one of the table's
 abbrev pub Finds : Found → Log → Episode → Type 0

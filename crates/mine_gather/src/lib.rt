@@ -10,7 +10,7 @@ ghost use Rattle.rules.specs.Refusals.{Given};
 ghost use Rattle.rules.specs.LogBlock.{records_at, block_episodes};
 ghost use Rattle.rules.specs.Calls.{top_code, log_sound};
 ghost use Rattle.mine_places.specs.Places.{codes_of, episode_of, Events, Recorded};
-ghost use Rattle.mine_gather.specs.Gathering.{listed_by, as_bytes, Listing, NextEvent, Lists, Finds, Gathered};
+ghost use Rattle.mine_gather.specs.Gathering.{listed_by, as_bytes, Listing, Lists, Finds, Gathered};
 
 use rules::{BLOCK_SIZE, HEARTBEAT};
 
@@ -25,7 +25,7 @@ const SLOTS: usize = 2048;
 const TRIES: usize = 32;
 
 // An episode is listed already, or may be hinted at in a free slot, or all slots that were looked at hint at others.
-#[derive(Clone, Copy)]
+#[derive(Clone, Copy, PartialEq, Eq, Debug)]
 pub enum Found {
     Known,
     Room(usize),
@@ -38,10 +38,7 @@ fn slot_of(events: &[u8], w: usize, beats: bool) -> usize
     ensures { result < 2048 }
 {
     let mut number: u32 = 1;
-    let mut i: usize = 0;
-    while i < events.len() {
-        let c = events[i];
-        i += w;
+    for &c in events.iter().step_by(w) {
         if !(beats && c == HEARTBEAT) {
             number = (number * 101 + (c as u32)) % 65536;
         }
@@ -49,40 +46,12 @@ fn slot_of(events: &[u8], w: usize, beats: bool) -> usize
     (number as usize) % SLOTS
 }
 
-// Have two records the same codes? Every code is looked at, which takes fewer instructions than to stop at the first that differs.
+// Have two records the same codes?
 fn same_codes(a: &[u8], b: &[u8], w: usize) -> bool
     requires { Events w a.now × Events w b.now }
     ensures { result ≡ true → codes_of w a.now ≡ codes_of w b.now }
 {
-    if a.len() != b.len() {
-        return false;
-    }
-    let mut same = true;
-    let mut i: usize = 0;
-    while i < a.len() {
-        let x = a[i];
-        let y = b[i];
-        i += w;
-        if x != y {
-            same = false;
-        }
-    }
-    same
-}
-
-// The place of the first event from a place on, or one past the record's end.
-fn next_event(events: &[u8], from: usize, w: usize) -> usize
-    requires { Events w events.now }
-    ensures { NextEvent w events.now from result }
-{
-    let mut i = from;
-    while i < events.len() {
-        if events[i] != HEARTBEAT {
-            return i;
-        }
-        i += w;
-    }
-    i
+    a.len() == b.len() && a.iter().step_by(w).eq(b.iter().step_by(w))
 }
 
 // Have two records the same events?
@@ -90,19 +59,9 @@ fn same_without(a: &[u8], b: &[u8], w: usize) -> bool
     requires { Events w a.now × Events w b.now }
     ensures { result ≡ true → without_heartbeats (codes_of w a.now) ≡ without_heartbeats (codes_of w b.now) }
 {
-    let mut i = next_event(a, 0, w);
-    let mut j = next_event(b, 0, w);
-    while i < a.len() {
-        if b.len() <= j {
-            return false;
-        }
-        if a[i] != b[j] {
-            return false;
-        }
-        i = next_event(a, i + w, w);
-        j = next_event(b, j + w, w);
-    }
-    j >= b.len()
+    let mine = a.iter().step_by(w).filter(|c| **c != HEARTBEAT);
+    let other = b.iter().step_by(w).filter(|c| **c != HEARTBEAT);
+    mine.eq(other)
 }
 
 fn same_events(a: &[u8], b: &[u8], w: usize, beats: bool) -> bool
@@ -110,9 +69,10 @@ fn same_events(a: &[u8], b: &[u8], w: usize, beats: bool) -> bool
     ensures { result ≡ true → without_heartbeats (codes_of w a.now) ≡ without_heartbeats (codes_of w b.now) }
 {
     if beats {
-        return same_without(a, b, w);
+        same_without(a, b, w)
+    } else {
+        same_codes(a, b, w)
     }
-    same_codes(a, b, w)
 }
 
 // Looks for an episode among the n that are listed, from its slot on.
@@ -120,22 +80,17 @@ fn look_up(log: &[u8], work: &[u8], n: usize, events: &[u8], w: usize, beats: bo
     requires { (n ≤ 4080) × Events w events.now × Listing w log.now n work.now }
     ensures { Finds result (listed_by w log.now n work.now) (codes_of w events.now) }
 {
-    let mut slot = slot_of(events, w, beats);
-    let mut tries = TRIES;
-    while 0 < tries {
+    let first = slot_of(events, w, beats);
+    for i in 0..TRIES {
+        let slot = (first + i) % SLOTS;
         let k = mine_places::place_at(work, HINTS + 2 * slot);
-        if k == 0 {
-            return Found::Room(slot);
-        }
-        if n < k {
+        if k == 0 || n < k {
             return Found::Room(slot);
         }
         let at = mine_places::place_at(work, 2 * (k - 1));
         if same_events(mine_places::events_at(log, at, w), events, w, beats) {
             return Found::Known;
         }
-        slot = (slot + 1) % SLOTS;
-        tries -= 1;
     }
     Found::Crowded
 }
@@ -145,8 +100,7 @@ fn put(work: &mut [u8], i: usize, n: usize)
     requires { (i + 1 < length work.old) × (n < 65536) }
     ensures { work.new ≡ sets work.old i (as_bytes n) }
 {
-    work[i] = (n % 256) as u8;
-    work[i + 1] = (n / 256) as u8;
+    work[i..i + 2].copy_from_slice(&(n as u16).to_le_bytes());
 }
 
 // Lists the place of a record unless its episode is known, and answers how many places are listed then.
@@ -178,11 +132,9 @@ fn gather_block(log: &[u8], work: &mut [u8], n: usize, base: usize, w: usize, be
     let block = &log[base..end];
     let mut m = n;
     let mut at: usize = 1;
-    let mut records = block[0] as usize;
-    while 0 < records {
+    for _ in 0..block[0] {
         m = list_place(log, work, m, base + at, w, beats);
         at = log_records::next_record(block, at, w);
-        records -= 1;
     }
     m
 }
@@ -192,11 +144,7 @@ fn clear_hints(work: &mut [u8])
     requires { 16384 ≤ length work.old }
     ensures { length work.new ≡ length work.old }
 {
-    let mut i = HINTS;
-    while i < HINTS_END {
-        work[i] = 0;
-        i += 1;
-    }
+    work[HINTS..HINTS_END].fill(0);
 }
 
 // Lists the places of a sound log's distinct episodes, and answers how many. `beats` tells to compare events alone; otherwise records are compared as they are stored, which
@@ -207,12 +155,8 @@ pub fn gather(log: &[u8], work: &mut [u8], w: usize, beats: bool) -> usize
 {
     clear_hints(work);
     let mut n: usize = 0;
-    let mut base: usize = 0;
-    let mut blocks = log.len() / BLOCK_SIZE;
-    while 0 < blocks {
-        n = gather_block(log, work, n, base, w, beats);
-        base += BLOCK_SIZE;
-        blocks -= 1;
+    for i in 0..log.len() / BLOCK_SIZE {
+        n = gather_block(log, work, n, BLOCK_SIZE * i, w, beats);
     }
     n
 }

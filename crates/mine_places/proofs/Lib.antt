@@ -1,4 +1,3 @@
 pub mod ListLaws
 pub mod PassLaws
-pub mod EventLaws
-pub mod StepLaws
+pub mod CodesLaws

@@ -16,6 +16,3 @@ same_events-requires c = let a = c.args in
 pub returns-then-same_events : goal.returns-then-same_events
 returns-then-same_events c = let a = c.args in
     hinted_same a.w a.log.now a.n a.work.now c.requires.2 c.requires.0 _ (omega arith) (omega arith) _ c.place_at-at.ensures _ c.events_at.ensures _ (c.same_events.ensures c.if-same_events.true)
-
-pub returns : goal.returns
-returns c = tt

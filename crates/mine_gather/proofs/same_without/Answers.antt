@@ -1,22 +1,19 @@
-use mathlib.Core.Bool.{false≢true}
-use native.Mathlib.Omega.{arith}
-use borrow.Author.Tests.{leb-true}
-use Rattle.mine_gather.proofs.SameLaws.{compare_start, compare_next, compare_end}
+use mathlib.Core.Path.{sym, ◌∙◌}
+use mathlib.Core.Bool.{not}
+use lib.Dec.{eqb}
+use borrow.Author.Rules.{rules}
+use borrow.Author.Tests.{tests}
+use Rattle.std.proofs.lemmas.Iterator.Consumers.{YieldsList-at, YieldsList-from_filter}
+use Rattle.rules.specs.Heartbeats.{heartbeat}
+use Rattle.mine_places.proofs.CodesLaws.{YieldsList-from_codes}
+use Rattle.mine_gather.proofs.SameLaws.{same_from_eq, filter_without}
 use Rattle.mine_gather.proofs.same_without.Goals as goal
 
-pub loop-i-init : goal.loop-i-init
-loop-i-init c = compare_start c.args.w c.requires.0.some c.args.a.now c.args.b.now _ _ c.next_event-i.ensures c.next_event-j.ensures
-
-pub returns-then-b-j : goal.returns-then-b-j
-returns-then-b-j c e = absurd (false≢true e)
-
-pub returns-then-a-i : goal.returns-then-a-i
-returns-then-a-i c e = absurd (false≢true e)
-
-pub loop-i-preserved : goal.loop-i-preserved
-loop-i-preserved c = let l = c.loop-i in
-    compare_next c.args.w c.requires.0.some c.args.a.now c.args.b.now l.i l.j l.invariant (omega arith) (omega arith) c.if-a-i.false _ _ c.next_event-i-in-loop-i.ensures c.next_event-j-in-loop-i.ensures
-
 pub returns : goal.returns
-returns c e = let l = c.loop-i in
-    compare_end c.args.w c.requires.0.some c.args.a.now c.args.b.now l.i l.j l.invariant (omega arith) (leb-true _ _ e)
+returns c e = let a = c.args in
+    sym (filter_without _)
+    ∙ same_from_eq c.eq.ensures.ran
+    (YieldsList-from_filter _ (λ x. not (eqb x heartbeat)) (YieldsList-at c.filter-mine.ensures.source (YieldsList-from_codes _ a.w a.a.now (search rules) (search rules) (search rules))) c.filter-mine.ensures.closure (λ x b q k. search (rules, tests)))
+    (YieldsList-from_filter _ (λ x. not (eqb x heartbeat)) (YieldsList-at c.filter-other.ensures.source (YieldsList-from_codes _ a.w a.b.now (search rules) (search rules) (search rules))) c.filter-other.ensures.closure (λ x b q k. search (rules, tests)))
+    e
+    ∙ filter_without _

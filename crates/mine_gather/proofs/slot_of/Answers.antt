@@ -1,8 +1,8 @@
-use native.Mathlib.Omega.{arith}
+use Rattle.mine_places.proofs.CodesLaws.{left_less}
 use Rattle.mine_gather.proofs.slot_of.Goals as goal
 
-pub loop-i-init : goal.loop-i-init
-loop-i-init c = omega arith
+pub loop-c-smaller-then-not-c : goal.loop-c-smaller-then-not-c
+loop-c-smaller-then-not-c c = search left_less
 
-pub overflow_add-number : goal.overflow_add-number
-overflow_add-number c = omega (arith, c.type_inv.events c.loop-i.i)
+pub loop-c-smaller : goal.loop-c-smaller
+loop-c-smaller c = search left_less

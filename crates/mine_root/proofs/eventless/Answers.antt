@@ -1,7 +1,7 @@
 use mathlib.Core.Path.{◌∙◌}
 use Rattle.std.proofs.lemmas.Iterator.Search.{all_from_yields_List}
 use Rattle.rules.specs.Heartbeats.{heartbeat}
-use Rattle.mine_places.proofs.StepLaws.{YieldsList-from_codes}
+use Rattle.mine_places.proofs.CodesLaws.{YieldsList-from_codes}
 use lib.Dec.{eqb}
 use borrow.Author.Rules.{rules}
 use borrow.Author.Tests.{tests}

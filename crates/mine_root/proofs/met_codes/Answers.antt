@@ -1,6 +1,6 @@
 use mathlib.Core.Path.{◌≡◌}
 use Rattle.mine_places.specs.Places.{codes_of}
-use Rattle.mine_places.proofs.StepLaws.{codes_left, left_first, left_turn, left_end, left_less, code_given, codes_rest}
+use Rattle.mine_places.proofs.CodesLaws.{codes_left, left_first, left_turn, left_end, left_less, code_given, codes_rest}
 use Rattle.mine_root.proofs.CodeLaws.{met_first, met_next, met_end, met_quiet, met_full}
 use Rattle.mine_root.proofs.met_codes.Goals as goal
 

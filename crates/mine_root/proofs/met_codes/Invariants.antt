@@ -7,7 +7,7 @@ use Rattle.rules.specs.Words.{mem}
 use Rattle.rules.specs.Calls.{code_count}
 use Rattle.code_sets.specs.Bits.{has}
 use Rattle.mine_places.specs.Places.{codes_of, All}
-use Rattle.mine_places.proofs.StepLaws.{codes_left}
+use Rattle.mine_places.proofs.CodesLaws.{codes_left}
 use Rattle.mine_root.proofs.met_codes.Given as goal
 
 abbrev pub invariant-loop-c : goal.invariant-loop-c
