@@ -32,14 +32,12 @@ fn nothing_new(
     let watched = keep.union(breaks);
     let mut known = first;
     let mut open = CodeSet::none();
-    let mut i: usize = 0;
-    while i < events.len() {
-        let c = events[i];
-        i += w;
+    for &c in events.iter().step_by(w) {
         if watched.has_first(c) {
             if known.has_code(c) {
-                let k = c as usize;
-                let row = CodeSet { bits: rows[k] };
+                let row = CodeSet {
+                    bits: rows[c as usize],
+                };
                 known = row.meet(keep);
                 open = CodeSet::none().with_code(c);
             } else {
@@ -68,11 +66,9 @@ pub fn graph_of(log: &[u8], places: &[u8], w: usize, v: View) -> Graph
     let mut ends = g.ends;
     let keep = v.keep;
     let mut first = starts.meet(keep);
-    let mut i: usize = 0;
-    while i < places.len() / 2 {
+    for i in 0..places.len() / 2 {
         let at = mine_places::place_at(places, 2 * i);
         let events = mine_places::events_at(log, at, w);
-        i += 1;
         if !nothing_new(events, w, v, &rows, first, ends) {
             let h = mine_trails::graph_codes(events, w, v, Graph { rows, starts, ends });
             rows = h.rows;

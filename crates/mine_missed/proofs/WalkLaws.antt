@@ -2,10 +2,10 @@
 use mathlib.Core.Path.{◌≡◌, refl, sym, ◌∙◌, ap, fun_ext}
 use mathlib.Core.List.{List, [], ◌∷◌}
 use mathlib.Core.Bool.{Bool, true, false, not, ◌&&◌, ◌||◌}
-use Prim.Native.Nat.{ℕ, ◌+◌, ◌≤◌, ◌<◌}
+use Prim.Native.Nat.{ℕ, ◌<◌}
 use native.Mathlib.Omega.{arith}
 use lib.Dec.{eqb, ltb}
-use lib.ListN.{length, get_or, drop}
+use lib.ListN.{length}
 use borrow.Author.Tests.{eqb-true, eq-eqb, not-true}
 use Rattle.rules.specs.Words.{any, push, mem, from}
 use Rattle.rules.specs.Mining.{Episode, is_empty, project}
@@ -14,8 +14,6 @@ use Rattle.rules.proofs.BoolLaws.{bool_ext, or_off, or_right, and_cases, more_no
 use Rattle.rules.proofs.ListLaws.{any_false, has_mem, has_from}
 use Rattle.code_sets.specs.Bits.{has}
 use Rattle.code_sets.proofs.BitLaws.{has_zero}
-use Rattle.mine_places.specs.Places.{codes_of}
-use Rattle.mine_places.proofs.ListLaws.{codes_next, codes_end}
 use Rattle.mine_views.specs.Sublogs.{Set, Walk, step_by, walk, done, lacks}
 use Rattle.mine_views.proofs.PieceLaws.{pieces_one}
 use Rattle.mine_missed.specs.Missed.{part_at, missed_by, lacked_by}
@@ -95,20 +93,19 @@ ended sets m seen k e met n grew w = fun_ext (λ j. rw (grew j, more_twice, cut_
 
 -- ---- the loop over a record's events
 
--- the parts that are missed, where the loop has come to a byte
-pub missed_from : List ℕ → ℕ → ℕ → ℕ → List ℕ → ℕ → ℕ → ℕ → Set
-missed_from sets k cuts w s m seen i = rest_missed sets m (own seen k) (walk (has k) (has cuts) (codes_of w (drop i s)))
+-- the parts that are missed, where these codes are left
+pub missed_from : List ℕ → ℕ → ℕ → ℕ → ℕ → List ℕ → Set
+missed_from sets k cuts m seen left = rest_missed sets m (own seen k) (walk (has k) (has cuts) left)
 
-module _ (sets : List ℕ) (k cuts w : ℕ) (some : 1 ≤ w) (s : List ℕ) (m seen i : ℕ) (h : i < length s) (t : Bool) (call : t ≡ has cuts (get_or s i 0)) where
-  turned : missed_from sets k cuts w s m seen i ≡ rest_missed sets m (own seen k) (step_by (has k (get_or s i 0)) t (get_or s i 0) (walk (has k) (has cuts) (codes_of w (drop (i + w) s))))
+module _ (sets : List ℕ) (k cuts m seen c : ℕ) (left rest : List ℕ) (next-c : left ≡ c ∷ rest) (t : Bool) (call : t ≡ has cuts c) where
+  turned : missed_from sets k cuts m seen left ≡ rest_missed sets m (own seen k) (step_by (has k c) t c (walk (has k) (has cuts) rest))
   unfolding missed_from
-  turned = rw call (ap (λ (l : List ℕ). rest_missed sets m (own seen k) (walk (has k) (has cuts) l)) (codes_next w some s i h))
+  turned = rw call (ap (λ (l : List ℕ). rest_missed sets m (own seen k) (walk (has k) (has cuts) l)) next-c)
 
   -- a code that is no cut
-  pub missed_seen : t ≡ false → get_or s i 0 < code_count → (next : ℕ) → ((y : ℕ) → has next y ≡ (has seen y || eqb y (get_or s i 0))) → missed_from sets k cuts w s m seen i ≡ missed_from sets k cuts w s m next (i + w)
+  pub missed_seen : t ≡ false → c < code_count → (next : ℕ) → ((y : ℕ) → has next y ≡ (has seen y || eqb y c)) → missed_from sets k cuts m seen left ≡ missed_from sets k cuts m next rest
   unfolding missed_from rest_missed
   missed_seen off small next grew =
-      let c = get_or s i 0 in
       let among : mem c (from 0 code_count) ≡ true = has_mem c (from 0 code_count) (has_from code_count 0 c (omega arith) (omega arith)) in
       turned ∙ fun_ext (λ j. rw (off, any_more seen next k c grew (part_at sets j), any_more seen next k c grew (from 0 code_count), among, event_on))
 
@@ -124,27 +121,26 @@ module _ (k b cuts : ℕ) (apart : (y : ℕ) → has cuts y ≡ (has b y && not 
       by false false = refl
 
   -- before the first event
-  pub missed_first : (bare : Bool) (sets : List ℕ) (w : ℕ) (s : List ℕ) (m seen : ℕ) → seen ≡ 0 →
-      missed_from sets k cuts w s m seen 0 ≡ missed_by (record { kept = has k; breaks = has b; bare = bare }) sets (has m) (codes_of w s ∷ [])
+  pub missed_first : (bare : Bool) (sets codes : List ℕ) (m seen : ℕ) → seen ≡ 0 →
+      missed_from sets k cuts m seen codes ≡ missed_by (record { kept = has k; breaks = has b; bare = bare }) sets (has m) (codes ∷ [])
   unfolding missed_from missed_by
-  missed_first bare sets w s m seen e =
-      fresh sets m seen k (walk (has k) (has cuts) (codes_of w s)) e
-      ∙ ap (lacked_in sets m) (ap done (walk_cuts (codes_of w s)) ∙ pieces_one (record { kept = has k; breaks = has b; bare = bare }) (codes_of w s))
+  missed_first bare sets codes m seen e =
+      fresh sets m seen k (walk (has k) (has cuts) codes) e
+      ∙ ap (lacked_in sets m) (ap done (walk_cuts codes) ∙ pieces_one (record { kept = has k; breaks = has b; bare = bare }) codes)
 
   -- a number has the open events
-  module _ (seen e : ℕ) (met : (y : ℕ) → has e y ≡ own seen k y) (sets : List ℕ) (m n : ℕ) (grew : (j : ℕ) → has n j ≡ (has m j || lacked_by sets (has e) j)) (w : ℕ) (some : 1 ≤ w) (s : List ℕ) (i : ℕ) where
+  module _ (seen e : ℕ) (met : (y : ℕ) → has e y ≡ own seen k y) (sets : List ℕ) (m n : ℕ) (grew : (j : ℕ) → has n j ≡ (has m j || lacked_by sets (has e) j)) (left : List ℕ) where
     -- at a cut
-    pub missed_cut : i < length s → (t : Bool) → t ≡ has cuts (get_or s i 0) → t ≡ true → (next : ℕ) → next ≡ 0 → missed_from sets k cuts w s m seen i ≡ missed_from sets k cuts w s n next (i + w)
+    pub missed_cut : (c : ℕ) (rest : List ℕ) → left ≡ c ∷ rest → (t : Bool) → t ≡ has cuts c → t ≡ true → (next : ℕ) → next ≡ 0 → missed_from sets k cuts m seen left ≡ missed_from sets k cuts n next rest
     unfolding missed_from
-    missed_cut h t call on next z =
-        let c = get_or s i 0 in
-        let rest = walk (has k) (has cuts) (codes_of w (drop (i + w) s)) in
+    missed_cut c rest h t call on next z =
+        let later = walk (has k) (has cuts) rest in
         let off = not-true (has k c) (and_cases (has b c) (not (has k c)) (sym (apart c) ∙ sym call ∙ on)).1 in
-        turned sets k cuts w some s m seen i h t call
-        ∙ (λ q. rest_missed sets m (own seen k) (step_by (off q) (on q) c rest))
-        ∙ ended sets m seen k e met n grew rest ∙ sym (fresh sets n next k rest z)
+        turned sets k cuts m seen c left rest h t call
+        ∙ (λ q. rest_missed sets m (own seen k) (step_by (off q) (on q) c later))
+        ∙ ended sets m seen k e met n grew later ∙ sym (fresh sets n next k later z)
 
     -- at the record's end
-    pub missed_end : length s ≤ i → has n ≡ missed_from sets k cuts w s m seen i
+    pub missed_end : left ≡ [] → has n ≡ missed_from sets k cuts m seen left
     unfolding missed_from
-    missed_end h = rw (codes_end w some s i h) (sym (ended sets m seen k e met n grew ([], []) ∙ fun_ext (λ j. more_none (has n j) (ltb j (length sets)))))
+    missed_end h = rw h (sym (ended sets m seen k e met n grew ([], []) ∙ fun_ext (λ j. more_none (has n j) (ltb j (length sets)))))

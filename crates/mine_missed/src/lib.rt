@@ -22,13 +22,9 @@ fn with_lacked(own: CodeSet, sets: &[Bits], missed: Bits) -> Bits
         return missed;
     }
     let mut m = missed;
-    let mut k: u8 = 0;
-    while (k as usize) < sets.len() {
-        let part = sets[k as usize];
-        let bit: Bits = 1 << k;
-        k += 1;
+    for (k, &part) in sets.iter().enumerate() {
         if part & own.bits == 0 {
-            m |= bit;
+            m |= 1 << k;
         }
     }
     m
@@ -44,10 +40,7 @@ fn missed_codes(events: &[u8], w: usize, v: View, sets: &[Bits], missed: Bits) -
     let cuts = breaks.minus(keep);
     let mut m = missed;
     let mut seen = CodeSet::none();
-    let mut i: usize = 0;
-    while i < events.len() {
-        let c = events[i];
-        i += w;
+    for &c in events.iter().step_by(w) {
         if cuts.has_first(c) {
             m = with_lacked(seen.meet(keep), sets, m);
             seen = CodeSet::none();
@@ -62,10 +55,7 @@ fn missed_codes(events: &[u8], w: usize, v: View, sets: &[Bits], missed: Bits) -
 fn at_first(bare: bool) -> Bits
     ensures { (k : ℕ) → has result k ≡ (bare && ltb k code_count) }
 {
-    if bare {
-        return CodeSet::ALL;
-    }
-    0
+    if bare { CodeSet::ALL } else { 0 }
 }
 
 // The parts that an episode of the view lacks.
@@ -74,11 +64,9 @@ fn missed_of(log: &[u8], places: &[u8], w: usize, v: View, sets: &[Bits]) -> Bit
     ensures { (k : ℕ) → k < length sets.now → has result k ≡ bare_of (part_at sets.now k) (episodes_of w log.now places.now) (sight v) }
 {
     let mut m = at_first(v.bare);
-    let mut i: usize = 0;
-    while i < places.len() / 2 {
+    for i in 0..places.len() / 2 {
         let at = mine_places::place_at(places, 2 * i);
         let events = mine_places::events_at(log, at, w);
-        i += 1;
         m = missed_codes(events, w, v, sets, m);
     }
     m
@@ -97,9 +85,7 @@ pub fn missed_parts(
     ensures { (k : ℕ) → k < length sets.now → has result k ≡ (part_sight (op_of operator) (part_at sets.now k) (episodes_of w log.now places.now) (sight v)).bare }
 {
     match operator {
-        Operator::Choice => 0,
-        Operator::Sequence => missed_of(log, places, w, v, sets),
-        Operator::Parallel => missed_of(log, places, w, v, sets),
-        Operator::Loop => 0,
+        Operator::Choice | Operator::Loop => 0,
+        Operator::Sequence | Operator::Parallel => missed_of(log, places, w, v, sets),
     }
 }

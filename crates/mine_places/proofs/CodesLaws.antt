@@ -1,16 +1,14 @@
 -- The codes that an iterator over a record's events has still to give.
 use mathlib.Core.Path.{◌≡◌, refl, sym, ◌∙◌, ap, subst}
 use mathlib.Core.List.{List, [], ◌∷◌}
-use mathlib.Core.Bool.{Bool, true, false, cond}
+use mathlib.Core.Bool.{Bool, true, cond}
 use Prim.Native.Nat.{ℕ, zero, suc, ◌+◌, ◌-◌, ◌≤◌, ◌<◌}
-use native.Mathlib.Numerals.{add-one}
 use native.Mathlib.Omega.{arith}
 use lib.ListN.{length}
 use denote.Ref.{Bor}
 use Rattle.std.specs.Prelude.{Option, None, Some}
 use Rattle.std.specs.declared.iter.StepBy.{StepBy}
 use Rattle.std.specs.declared.slice.Iter.{Iter}
-use Rattle.std.specs.Option.{MatchOption}
 use Rattle.std.specs.Iterator.{Yields, AlwaysYields}
 use Rattle.std.specs.Iterator.Adapters.{step_by_source, step_by_gap, step_by_first_take, step_by_steps}
 use Rattle.std.specs.Slice.Iter.{iter_rest}

@@ -9,9 +9,7 @@ pub fn place_at(places: &[u8], i: usize) -> usize
     requires { i + 1 < length places.now }
     ensures { result ≡ place_at places.now i }
 {
-    let low = places[i] as usize;
-    let high = places[i + 1] as usize;
-    low + 256 * high
+    u16::from_le_bytes([places[i], places[i + 1]]) as usize
 }
 
 // The events of the record at a place, a part of the log from the record's own place.

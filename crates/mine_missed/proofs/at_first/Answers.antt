@@ -4,5 +4,5 @@ use Rattle.mine_missed.proofs.at_first.Goals as goal
 pub returns-then-bare : goal.returns-then-bare
 returns-then-bare c = first_all _ c.if-bare.true
 
-pub returns : goal.returns
-returns c = first_none _ c.if-bare.false
+pub returns-else-bare : goal.returns-else-bare
+returns-else-bare c = first_none _ c.if-bare.false

@@ -1,5 +1,4 @@
 use mathlib.Core.Path.{refl}
-use native.Mathlib.Omega.{arith}
 use Rattle.mine_places.proofs.PassLaws.{listed_next, record_here, events_here, pass_end, pass_read}
 use Rattle.mine_views.specs.Sublogs.{sight}
 use Rattle.mine_missed.specs.Missed.{missed_by}
@@ -8,7 +7,7 @@ use borrow.Author.Rules.{rules}
 use Rattle.mine_missed.proofs.missed_of.Goals as goal
 
 pub loop-i-init : goal.loop-i-init
-loop-i-init c = (search rules, refl, omega arith)
+loop-i-init c = (search rules, refl)
 
 pub events_at-events-requires : goal.events_at-events-requires
 events_at-events-requires c = (search rules, search record_here depth 9)
@@ -20,7 +19,7 @@ pub loop-i-preserved : goal.loop-i-preserved
 loop-i-preserved c = let a = c.args in
     let s = sight a.v in
     let sets = a.sets.now in
-    (search listed_next depth 7, search (pass_read (missed_by s sets) (missed_nil s sets) (missed_append s sets)) depth 9, omega arith)
+    (search listed_next depth 7, search (pass_read (missed_by s sets) (missed_nil s sets) (missed_append s sets)) depth 9)
 
 pub returns : goal.returns
 returns c = let a = c.args in

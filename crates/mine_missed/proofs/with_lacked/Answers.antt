@@ -2,22 +2,21 @@ use native.Mathlib.Omega.{arith}
 use Rattle.mine_missed.proofs.MissedLaws.{lacked_none, below_none, below_lacked, below_met, below_all}
 use borrow.Author.Rules.{rules}
 use Rattle.mine_missed.proofs.with_lacked.Goals as goal
+use Rattle.mine_missed.proofs.with_lacked.Goals.{then-part-own-eq0, else-part-own-eq0}
 
 pub returns-then-own-eq0 : goal.returns-then-own-eq0
 returns-then-own-eq0 c = let a = c.args in lacked_none a.own.bits a.sets.now a.missed c.if-own-eq0.true
 
 pub loop-k-init : goal.loop-k-init
-loop-k-init c = let a = c.args in (below_none a.own.bits a.sets.now a.missed, omega arith)
-
-pub loop-k-preserved-then-part-own-eq0 : goal.loop-k-preserved-then-part-own-eq0
-loop-k-preserved-then-part-own-eq0 c = let l = c.loop-k in
-    let a = c.args in
-    (below_lacked a.own.bits a.sets.now a.missed l.m l.k l.invariant.0 (search rules) (omega arith) c.if-part-own-eq0.true, omega arith)
+loop-k-init c = let a = c.args in below_none a.own.bits a.sets.now a.missed
 
 pub loop-k-preserved : goal.loop-k-preserved
 loop-k-preserved c = let l = c.loop-k in
     let a = c.args in
-    (below_met a.own.bits a.sets.now a.missed l.m l.k l.invariant.0 (search rules) c.if-part-own-eq0.false, omega arith)
+    elim c.if-part-own-eq0.branch [
+      | then-part-own-eq0 w ↦ rw w.m-is (below_lacked a.own.bits a.sets.now a.missed l.m l.k l.invariant (search rules) (omega arith) w.if-part-own-eq0.true)
+      | else-part-own-eq0 w ↦ rw w.m-is (below_met a.own.bits a.sets.now a.missed l.m l.k l.invariant (search rules) w.if-part-own-eq0.false)
+    ]
 
 pub returns : goal.returns
 returns c = search below_all depth 9
