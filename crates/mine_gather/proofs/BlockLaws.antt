@@ -10,13 +10,13 @@ use Rattle.rules.specs.Mining.{Episode}
 use Rattle.rules.specs.Refusals.{Given}
 use Rattle.rules.specs.LogBlock.{frame_at, codes_by, events_at, record_at, records_at, blocks_at, episodes_at, block_episodes, episodes_from}
 use Rattle.rules.specs.Calls.{top_code, code_count}
-use Rattle.rules.specs.declared.Answer.TheVariants.{Gives}
 use Rattle.rules.proofs.AnswerLaws.{given_is, gives_same}
 use Rattle.block_seal.proofs.PartLaws.{length_part, get_d_part, part_is}
 use Rattle.log_records.proofs.RecordLaws.{size_le, Framed, frame_given, frame_events, record_given}
 use Rattle.log_episodes.proofs.EpisodeLaws.{records_given, record_fine, records_fine, episodes_next, block_sound, blocks_episodes_next}
 use Rattle.mine_places.specs.Places.{codes_of, events_of, episode_of, All, Recorded}
 use Rattle.mine_places.proofs.ListLaws.{has_all, codes_counted}
+use Rattle.std.specs.Prelude.{Ok}
 
 -- the block that a walk over the log has come to
 pub block_here : (w : ℕ) (log : List ℕ) (base left : ℕ) → Given (blocks_at w top_code left log base) → 0 < left → Given (records_at w top_code (get_or (part log base 512) 0 0) (part log base 512) 1)
@@ -38,7 +38,7 @@ module _ (w : ℕ) (some : 1 ≤ w) (few : w ≤ 3) (log : List ℕ) (base : ℕ
   abbrev n : ℕ
   n = get_or b at 0
 
-  met : (next : ℕ) × (record_at w top_code b at ≡ Gives next)
+  met : (next : ℕ) × (record_at w top_code b at ≡ Ok next)
   met =
       let is = given_is (records_at w top_code left b at) sound in
       let q : left ≡ suc (left - 1) = omega arith in
@@ -48,7 +48,7 @@ module _ (w : ℕ) (some : 1 ≤ w) (few : w ≤ 3) (log : List ℕ) (base : ℕ
   abbrev end : ℕ
   end = met.0
 
-  framed : frame_at w b at ≡ Gives end
+  framed : frame_at w b at ≡ Ok end
   framed = (record_given w top_code b at end met.1).0
 
   frame : Framed w b at end
@@ -61,7 +61,7 @@ module _ (w : ℕ) (some : 1 ≤ w) (few : w ≤ 3) (log : List ℕ) (base : ℕ
   byte = let f = frame in get_d_part log base 512 at (omega (arith, f.size, f.within))
 
   size : length (events_at b at end) ≡ n * w
-  size = frame_events w b at end n (Gives end) (length_part log base 512 room) (sym framed) refl refl
+  size = frame_events w b at end n (Ok end) (length_part log base 512 room) (sym framed) refl refl
 
   -- the events of the record in the log are those of the record in the block
   events : events_of w log (base + at) ≡ events_at b at end
@@ -93,7 +93,7 @@ module _ (w : ℕ) (some : 1 ≤ w) (few : w ≤ 3) (log : List ℕ) (base : ℕ
         };
       }
 
-  pub block_next : (next : ℕ) → Gives next ≡ frame_at w b at → episodes_at w left b at ≡ (episode_of w log (base + at) ∷ []) ++ episodes_at w (left - 1) b next
+  pub block_next : (next : ℕ) → Ok next ≡ frame_at w b at → episodes_at w left b at ≡ (episode_of w log (base + at) ∷ []) ++ episodes_at w (left - 1) b next
   block_next next call =
       let e : end ≡ next = gives_same end next (sym framed ∙ sym call) in
       episodes_next w b at left next call h

@@ -1,11 +1,11 @@
 -- What gathering leaves in the work, said of the set of episodes alone, heartbeats left out: which of two equal records is listed, and in which slot its hint stands, is told nowhere.
-use Rattle.std.specs.Prelude.{◌≡◌, List, [], ◌∷◌, ◌++◌, ℕ, ◌+◌, ◌*◌, ◌%◌, ◌/◌, ◌≤◌, ◌<◌, length, get_or, take, drop}
+use Rattle.std.specs.Prelude.{◌≡◌, List, [], ◌∷◌, ◌++◌, ℕ, ◌+◌, ◌*◌, ◌%◌, ◌/◌, ◌≤◌, ◌<◌, length, take}
 use Rattle.rules.specs.Words.{Has, each}
 use Rattle.rules.specs.Heartbeats.{without_heartbeats}
 use Rattle.rules.specs.LogBlock.{log_events}
 use Rattle.rules.specs.Mining.{Episode, Log}
 use Rattle.rules.proofs.SameEpisodes.{Same}
-use Rattle.mine_places.specs.Places.{places_in, codes_of, episodes_of, All, Recorded, Listed}
+use Rattle.mine_places.specs.Places.{places_in, episodes_of, All, Recorded, Listed}
 use Rattle.mine_gather.specs.declared.Found.{Found}
 use Rattle.mine_gather.specs.declared.Found.TheVariants.{Known, Room, Crowded}
 
