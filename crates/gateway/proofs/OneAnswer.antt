@@ -4,10 +4,10 @@ use mathlib.Core.List.{List}
 use Prim.Native.Nat.{ℕ, ◌<◌}
 use lib.ListN.{get_or}
 use Rattle.rules.specs.Calls.{reading, handed_on, checking, MineSays}
-use Rattle.rules.specs.declared.Answer.{Answer}
 use Rattle.log_adding.proofs.AddLaws.{add_unique}
 use Rattle.judge_call.proofs.OneAnswer.{judge_one}
 use Rattle.gateway.specs.Packed.{packed, packed_verdict, AddPacked, MinePacked, JudgePacked}
+use Rattle.rules.specs.Refusals.{Answer}
 
 -- THEOREM: reading a record
 pub read_one : (b : List ℕ) (at : ℕ) (r s : Answer) → r ≡ reading 1 b at → s ≡ reading 1 b at → r ≡ s

@@ -1,34 +1,18 @@
 // The calls for a caller in C, who finds them in `gateway_c`: each answers one number, the value or a refusal's number and place (specs/Packed).
 #![tactic(auto)]
 
-ghost use Rattle.std.specs.Prelude.{◌≡◌, ◌+◌, ◌*◌, ◌%◌};
+ghost use Rattle.std.specs.Prelude.{◌≡◌};
 ghost use Rattle.rules.specs.Calls.{reading, checking};
-ghost use Rattle.gateway.specs.Packed.{packed, packed_verdict, AddPacked, MinePacked, JudgePacked};
+ghost use Rattle.gateway.specs.Packed.{packed, AddPacked, MinePacked, JudgePacked};
 
 use rules::{Answer, Verdict};
-
-fn refusal(number: u8, place: usize) -> u64
-    ensures { result ≡ number * 4294967296 + place % 4294967296 }
-{
-    (number as u64) * 4294967296 + (place as u64) % 4294967296
-}
 
 fn pack(answer: Answer) -> u64
     ensures { result ≡ packed answer }
 {
     match answer {
-        Answer::Gives(n) => (n as u64) % 4294967296,
-        Answer::Refused { number, place } => refusal(number, place),
-    }
-}
-
-fn pack_verdict(verdict: Verdict) -> u64
-    ensures { result ≡ packed_verdict verdict }
-{
-    match verdict {
-        Verdict::Fits => 1,
-        Verdict::Misfit => 0,
-        Verdict::Refused { number, place } => refusal(number, place),
+        Ok(n) => n as u64 % 4294967296,
+        Err(refusal) => u64::from(u8::from(refusal.reason)) * 4294967296 + refusal.place as u64 % 4294967296,
     }
 }
 
@@ -64,5 +48,6 @@ pub fn arrabolzu_check(tree: &[u8]) -> u64
 pub fn arrabolzu_judge(tree: &[u8], episode: &[u8], work: &mut [u64]) -> u64
     ensures { JudgePacked tree.now episode.now work.old result work.new }
 {
-    pack_verdict(judge_call::judge(tree, episode, work))
+    let verdict = judge_call::judge(tree, episode, work);
+    pack(verdict.map(|v| usize::from(v == Verdict::Fits)))
 }

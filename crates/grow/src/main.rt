@@ -1,11 +1,11 @@
 // Reads a log on standard input and writes the block of its tree; the line of a refusal goes to standard error.
 #![tactic(auto)]
 
-use rules::{Answer, MINE_WORK, TREE_SIZE};
+use rules::{MINE_WORK, Refusal, TREE_SIZE};
 
-fn refuse(number: u8, place: usize) {
+fn refuse(refusal: Refusal) {
     let mut line = [0u8; 21];
-    let k = text_replies::write_refusal(number, place, &mut line);
+    let k = text_replies::write_refusal(u8::from(refusal.reason), refusal.place, &mut line);
     io::write_all(2, &line[..k]);
 }
 
@@ -16,9 +16,9 @@ fn main() {
     let mut tree = [0u8; TREE_SIZE];
     let mut work = [0u8; MINE_WORK];
     match mine_call::mine(&log[..n], &mut tree, &mut work) {
-        Answer::Gives(_) => {
+        Ok(_) => {
             io::write_all(1, &tree);
         }
-        Answer::Refused { number, place } => refuse(number, place),
+        Err(refusal) => refuse(refusal),
     }
 }

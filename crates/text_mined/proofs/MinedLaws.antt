@@ -12,8 +12,6 @@ use Rattle.rules.specs.TreeBlock.{tree_block}
 use Rattle.rules.specs.Calls.{code_count, told, after, log_sound, log_reading, mining, tree_of, MineSays, entry_count}
 use Rattle.rules.specs.Listing.{listing, refusal_line}
 use Rattle.rules.specs.Printed.{mined_by, mined_text}
-use Rattle.rules.specs.declared.Answer.{Answer}
-use Rattle.rules.specs.declared.Answer.TheVariants.{Gives, Refused}
 use Rattle.rules.proofs.AnswerLaws.{demand_given}
 use Rattle.rules.proofs.HeartbeatLaws.{events_below}
 use Rattle.rules.proofs.MinedTree.{mined_fits}
@@ -21,19 +19,10 @@ use Rattle.log_episodes.proofs.EpisodeLaws.{log_codes}
 use Rattle.text_writing.specs.Writing.{Wrote}
 use Rattle.text_writing.proofs.WroteLaws.{wrote_most}
 use Rattle.text_mined.specs.Mined.{Listable, answer_text}
-
--- ---- the text of an answer
-
-module _ {old new : List ℕ} {k : ℕ} (r : Answer) (b : List ℕ) (room : 2169 ≤ length old) where
-  pub listing_said : (n : ℕ) → r ≡ Gives n → Wrote 2169 old 0 (listing b n) new k → Wrote 2169 old 0 (answer_text r b) new k
-  listing_said n e w = subst (λ (a : Answer). Wrote 2169 old 0 (answer_text a b) new k) (sym e) w
-
-  pub refused_said : (number place : ℕ) → r ≡ Refused number place → Wrote 21 old 0 (refusal_line number place) new k → Wrote 2169 old 0 (answer_text r b) new k
-  refused_said number place e w =
-      subst (λ (a : Answer). Wrote 2169 old 0 (answer_text a b) new k) (sym e) (wrote_most w (omega arith) 2169 (omega arith))
-
-pub few_nodes : (r : Answer) (n : ℕ) → r ≡ Gives n → Listable r → n ≤ entry_count
-few_nodes r n e l = subst Listable e l
+use Rattle.std.specs.Prelude.{Ok, Err}
+use Rattle.rules.specs.Refusals.{Answer, refused}
+use Rattle.rules.specs.declared.Refusal.{Refusal}
+use Rattle.rules.specs.declared.Reason.TheVariants.{LogLength}
 
 -- ---- a call of mining with enough of both memories
 
@@ -44,18 +33,18 @@ module _ (log out work : List ℕ) (r : Answer) (out' work' : List ℕ) (says : 
   unfolding mining log_reading
   as_read = simp (le-leb 512 (length out) (omega arith), le-leb 16384 (length work) (omega arith))
 
-  few : (n : ℕ) → log_reading 1 log ≡ Gives n → size (tree_of 1 log) ≤ entry_count
+  few : (n : ℕ) → log_reading 1 log ≡ Ok n → size (tree_of 1 log) ≤ entry_count
   unfolding log_reading
   few n e =
-      let sound = (demand_given (log_sized log) 1 0 (log_sound 1 log) n e).1 in
+      let sound = (demand_given (log_sized log) LogLength 0 (log_sound 1 log) n e).1 in
       omega (arith, mined_fits code_count (log_events 1 log) (events_below code_count (log_episodes 1 log) (log_codes 1 log n (omega arith) sound)) (omega arith))
 
   pub mined_listable : Listable r
   mined_listable = go (mining 1 log out work) refl says.answer
     where
       go : (a : Answer) → mining 1 log out work ≡ a → r ≡ told a (size (tree_of 1 log)) → Listable r
-      go (Gives n) e q = subst Listable (sym q) (few n (sym as_read ∙ e))
-      go (Refused number place) e q = subst Listable (sym q) tt
+      go (Ok n) e q = subst Listable (sym q) (few n (sym as_read ∙ e))
+      go (Err refusal) e q = subst Listable (sym q) tt
 
   pub mined_said : answer_text r out' ≡ mined_text log
   unfolding mined_text
@@ -68,8 +57,8 @@ module _ (log out work : List ℕ) (r : Answer) (out' work' : List ℕ) (says : 
 
       go : (a : Answer) → mining 1 log out work ≡ a → r ≡ told a (size (tree_of 1 log)) → out' ≡ after a (tree_block (tree_of 1 log) ++ drop 512 out) out
           → answer_text r out' ≡ mined_by (mining 1 log out work) log
-      go (Gives n) e q b = (λ i. answer_text (q i) ((b ∙ whole) i)) ∙ ap (λ (a : Answer). mined_by a log) (sym e)
-      go (Refused number place) e q b = (λ i. answer_text (q i) out') ∙ ap (λ (a : Answer). mined_by a log) (sym e)
+      go (Ok n) e q b = (λ i. answer_text (q i) ((b ∙ whole) i)) ∙ ap (λ (a : Answer). mined_by a log) (sym e)
+      go (Err refusal) e q b = (λ i. answer_text (q i) out') ∙ ap (λ (a : Answer). mined_by a log) (sym e)
 
   pub mined_text_lem : {old new : List ℕ} {k : ℕ} → Wrote 2169 old 0 (answer_text r out') new k → Wrote 2169 old 0 (mined_text log) new k
   mined_text_lem {old} {new} {k} w = subst (λ (s : List ℕ). Wrote 2169 old 0 s new k) mined_said w

@@ -9,13 +9,16 @@ ghost use Rattle.text_mined.specs.Mined.{Listable, answer_text};
 use rules::{Answer, MINE_WORK, TREE_SIZE};
 
 // The listing of the tree that mining wrote, or the line of a refusal.
+#[tactic(auto, using(text_writing::proofs::WroteLaws::wrote_most))]
 fn answer_text(r: Answer, tree: &[u8], text: &mut [u8]) -> usize
     requires { (length tree.now ≡ 512) × Listable r × (2169 ≤ length text.old) }
     ensures { Wrote 2169 text.old 0 (answer_text r tree.now) text.new result }
 {
     match r {
-        Answer::Gives(nodes) => text_listing::write_listing(tree, nodes, text),
-        Answer::Refused { number, place } => text_replies::write_refusal(number, place, text),
+        Ok(nodes) => text_listing::write_listing(tree, nodes, text),
+        Err(refusal) => {
+            text_replies::write_refusal(u8::from(refusal.reason), refusal.place, text)
+        }
     }
 }
 

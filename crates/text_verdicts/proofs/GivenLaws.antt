@@ -11,12 +11,13 @@ use borrow.Author.Tests.{eqb-true}
 use Rattle.rules.specs.Refusals.{Given}
 use Rattle.rules.specs.LogBlock.{check_right, first_above, events_at, frame_at, records_at}
 use Rattle.rules.specs.Calls.{top_code, lent, formed, checking, judging}
-use Rattle.rules.specs.declared.Answer.TheVariants.{Gives}
 use Rattle.rules.proofs.AnswerLaws.{given_is, demand_given}
 use Rattle.log_records.proofs.RecordLaws.{frame_given, frame_events, record_given}
 use Rattle.log_events.proofs.LentLaws.{lent_here}
 use Rattle.log_episodes.proofs.EpisodeLaws.{met_record}
 use Rattle.judge_call.proofs.AcceptLaws.{accept_lent}
+use Rattle.std.specs.Prelude.{Ok}
+use Rattle.rules.specs.declared.Reason.TheVariants.{TreeBlock}
 
 -- ---- the tree
 
@@ -25,14 +26,14 @@ pub record Checked (b : List ℕ) : Type 0 where
   pub long : length b ≡ 512
   pub right : check_right b ≡ true
   pub nodes : ℕ
-  pub formed : formed b ≡ Gives nodes
+  pub formed : formed b ≡ Ok nodes
 
 checked : (b : List ℕ) → Given (checking b) → Checked b
 unfolding checking
 checked b g =
     let is = given_is (checking b) g in
-    let sized = demand_given (eqb (length b) 512) 8 0 _ is.0 is.1 in
-    let right = demand_given (check_right b) 8 0 (formed b) is.0 sized.1 in
+    let sized = demand_given (eqb (length b) 512) TreeBlock 0 _ is.0 is.1 in
+    let right = demand_given (check_right b) TreeBlock 0 (formed b) is.0 sized.1 in
     record { long = eqb-true (length b) 512 sized.0; right = right.0; nodes = is.0; formed = right.1 }
 
 -- judging by a checked tree refuses no episode that may be lent
@@ -43,7 +44,7 @@ judging_given b e work g l room =
 
 -- ---- the record that a walk over a sound block meets: its events may be lent
 
-pub met_lent : (b : List ℕ) (at left : ℕ) → Given (records_at 1 top_code left b at) → 0 < left → (next : ℕ) → Gives next ≡ frame_at 1 b at → length b ≡ 512 → Given (lent 1 (events_at b at next))
+pub met_lent : (b : List ℕ) (at left : ℕ) → Given (records_at 1 top_code left b at) → 0 < left → (next : ℕ) → Ok next ≡ frame_at 1 b at → length b ≡ 512 → Given (lent 1 (events_at b at next))
 met_lent b at left sound h next call long =
     let s : List ℕ = events_at b at next in
     let n : ℕ = get_or b at 0 in

@@ -9,15 +9,14 @@ use Rattle.rules.specs.Words.{part}
 use Rattle.rules.specs.Heartbeats.{without_heartbeats}
 use Rattle.rules.specs.Trees.{Tree, In}
 use Rattle.rules.specs.TreeBlock.{tree_block}
-use Rattle.rules.specs.Refusals.{Given}
+use Rattle.rules.specs.Refusals.{Given, Answer}
 use Rattle.rules.specs.LogBlock.{events_at, frame_at, episodes_at, block_episodes, episodes_from, log_episodes}
 use Rattle.rules.specs.Calls.{lent, checking, judging, Judged, VerdictOf, JudgeSays}
 use Rattle.rules.specs.Listing.{verdict_line, verdict_lines}
 use Rattle.rules.specs.Printed.{Tells, Told}
-use Rattle.rules.specs.declared.Answer.{Answer}
-use Rattle.rules.specs.declared.Answer.TheVariants.{Gives}
 use Rattle.rules.specs.declared.Verdict.{Verdict}
-use Rattle.rules.specs.declared.Verdict.TheVariants.{Fits, Misfit, Refused as Dismissed}
+use Rattle.rules.specs.declared.Verdict.TheVariants.{Fits, Misfit}
+use Rattle.rules.specs.declared.Refusal.{Refusal}
 use Rattle.rules.proofs.AnswerLaws.{given_is}
 use Rattle.block_seal.proofs.PartLaws.{get_d_part}
 use Rattle.log_episodes.proofs.EpisodeLaws.{episodes_end, episodes_next, events_codes, blocks_episodes_end, blocks_episodes_next}
@@ -25,6 +24,7 @@ use Rattle.text_writing.specs.Writing.{Wrote}
 use Rattle.text_writing.proofs.WroteLaws.{wrote_nothing, wrote_then, wrote_most}
 use Rattle.text_verdicts.specs.Lines.{fitting, Lines, LogLines}
 use Rattle.text_verdicts.proofs.GivenLaws.{judging_given}
+use Rattle.std.specs.Prelude.{Result, Ok, Err}
 
 -- the lines of more tests come after
 verdicts_append : (n : ℕ) (fs gs : List Bool) → verdict_lines n (fs ++ gs) ≡ verdict_lines n fs ++ verdict_lines (n + length fs) gs
@@ -75,12 +75,12 @@ lines_then {b} {old} {mid} {new} {whole} {es} {rest} {first} {n} {m} {at} {k} {r
 
 -- ---- one verdict
 
-tells : (t : Tree) (e : List ℕ) (v : Verdict) → Judged t e v → Tells (fitting v) (In t e)
-tells t e Fits j = j
-tells t e Misfit j = j
-tells t e (Dismissed number place) j = absurd j
+tells : (t : Tree) (e : List ℕ) (v : Result Verdict Refusal) → Judged t e v → Tells (fitting v) (In t e)
+tells t e (Ok Fits) j = j
+tells t e (Ok Misfit) j = j
+tells t e (Err refusal) j = absurd j
 
-pub verdict_said : {b e work work' old new : List ℕ} {v : Verdict} {f : Bool} {n at r : ℕ} → Given (checking b) → Given (lent 1 e) → 8128 ≤ length work
+pub verdict_said : {b e work work' old new : List ℕ} {v : Result Verdict Refusal} {f : Bool} {n at r : ℕ} → Given (checking b) → Given (lent 1 e) → 8128 ≤ length work
     → JudgeSays b e work v work' → f ≡ fitting v → Wrote 13 old at (verdict_line n f) new r → Lines b (e ∷ []) [] n (n + 1) old at new r
 unfolding verdict_lines
 verdict_said {b} {e} {work} {work'} {old} {new} {v} {f} {n} {at} {r} g l room says is w =
@@ -97,7 +97,7 @@ verdict_said {b} {e} {work} {work'} {old} {new} {v} {f} {n} {at} {r} g l room sa
 
 module _ (block : List ℕ) (place left : ℕ) {b old mid : List ℕ} {whole : List (List ℕ)} {first number at k : ℕ} where
   -- one record more
-  pub record_lines : {new : List ℕ} {r : ℕ} (next : ℕ) → length block ≡ 512 → Gives next ≡ frame_at 1 block place → 0 < left
+  pub record_lines : {new : List ℕ} {r : ℕ} (next : ℕ) → length block ≡ 512 → Ok next ≡ frame_at 1 block place → 0 < left
       → at + 13 * (number + 1) ≤ length old + 13 * first
       → Lines b whole (episodes_at 1 left block place) first number old at mid k → Lines b (events_at block place next ∷ []) [] number (number + 1) mid k new r
       → Lines b whole (episodes_at 1 (left - 1) block next) first (number + 1) old at new r

@@ -1,19 +1,20 @@
 -- What has been printed so far of the verdicts on a log.
-use Rattle.std.specs.Prelude.{◌≡◌, List, ◌++◌, Bool, true, false, ℕ, ◌+◌, ◌*◌, length}
+use Rattle.std.specs.Prelude.{◌≡◌, List, ◌++◌, Bool, true, false, Result, Ok, Err, ℕ, ◌+◌, ◌*◌, length}
 use Rattle.rules.specs.Trees.{Tree}
 use Rattle.rules.specs.TreeBlock.{tree_block}
 use Rattle.rules.specs.LogBlock.{log_episodes}
 use Rattle.rules.specs.Listing.{verdict_lines}
 use Rattle.rules.specs.Printed.{Told}
+use Rattle.rules.specs.declared.Refusal.{Refusal}
 use Rattle.rules.specs.declared.Verdict.{Verdict}
-use Rattle.rules.specs.declared.Verdict.TheVariants.{Fits, Misfit, Refused as Dismissed}
+use Rattle.rules.specs.declared.Verdict.TheVariants.{Fits, Misfit}
 use Rattle.text_writing.specs.Writing.{Wrote}
 
 -- what is printed of a verdict; an episode of a log that was read is not refused
-abbrev pub fitting : Verdict → Bool
-fitting Fits = true
-fitting Misfit = false
-fitting (Dismissed number place) = false
+abbrev pub fitting : Result Verdict Refusal → Bool
+fitting (Ok Fits) = true
+fitting (Ok Misfit) = false
+fitting (Err refusal) = false
 
 -- of the episodes `whole`, all but `rest` have their lines: those numbered from `first` up to n, written from a place on
 pub record Lines (b : List ℕ) (whole rest : List (List ℕ)) (first n : ℕ) (old : List ℕ) (at : ℕ) (new : List ℕ) (r : ℕ) : Type 0 where

@@ -7,17 +7,13 @@ ghost use Rattle.rules.specs.LogBlock.{records_at, block_episodes};
 ghost use Rattle.rules.specs.Calls.{top_code, lent, log_sound, checking};
 ghost use Rattle.text_verdicts.specs.Lines.{fitting, Lines, LogLines};
 
-use rules::{BLOCK_SIZE, Verdict};
+use rules::{BLOCK_SIZE, Refusal, Verdict};
 
 // What is printed of a verdict.
-fn fits(v: Verdict) -> bool
+fn fits(v: Result<Verdict, Refusal>) -> bool
     ensures { result ≡ fitting v }
 {
-    match v {
-        Verdict::Fits => true,
-        Verdict::Misfit => false,
-        Verdict::Refused { .. } => false,
-    }
+    matches!(v, Ok(Verdict::Fits))
 }
 
 // The line of an episode's verdict.
@@ -37,6 +33,7 @@ fn verdict_line(
 }
 
 // A line for each record of a block, counted from `first`.
+#[tactic(auto, using(log_records::proofs::RecordLaws::next_fits))]
 fn block_lines(
     tree: &[u8],
     block: &[u8],
@@ -49,16 +46,11 @@ fn block_lines(
     ensures { Lines tree.now (block_episodes 1 block.now) [] first (first + get_or block.now 0 0) text.old at text.new result }
 {
     let mut place: usize = 1;
-    let mut left = block[0];
-    let mut number = first;
     let mut next = at;
-    while 0 < left {
+    for number in first..first + usize::from(block[0]) {
         let after = log_records::next_record(block, place, 1);
-        let from = place + 1;
-        next = verdict_line(tree, &block[from..after], number, work, text, next);
+        next = verdict_line(tree, &block[place + 1..after], number, work, text, next);
         place = after;
-        number += 1;
-        left -= 1;
     }
     next
 }
@@ -68,16 +60,12 @@ pub fn log_lines(tree: &[u8], log: &[u8], work: &mut [u64], text: &mut [u8]) -> 
     requires { Given (checking tree.now) × Given (log_sound 1 log.now) × (length log.now ≤ 8192) × (8128 ≤ length work.old) × (53040 ≤ length text.old) }
     ensures { LogLines tree.now log.now text.old text.new result }
 {
-    let mut base: usize = 0;
-    let mut left = log.len() / BLOCK_SIZE;
     let mut number: usize = 1;
     let mut next: usize = 0;
-    while 0 < left {
-        let end = base + BLOCK_SIZE;
-        next = block_lines(tree, &log[base..end], number, work, text, next);
-        number += log[base] as usize;
-        base = end;
-        left -= 1;
+    for k in 0..log.len() / BLOCK_SIZE {
+        let base = k * BLOCK_SIZE;
+        next = block_lines(tree, &log[base..base + BLOCK_SIZE], number, work, text, next);
+        number += usize::from(log[base]);
     }
     next
 }

@@ -1,8 +1,12 @@
-use Rattle.text_judged.proofs.TextLaws.{rest_none, rest_all}
+use mathlib.Core.Path.{ap, ◌∙◌}
+use Prim.Native.Nat.{ℕ, ◌-◌}
+use native.Mathlib.Omega.{arith}
+use lib.ListN.{length, drop, length-drop}
+use Rattle.std.proofs.lemmas.List.{take_all, drop_min}
 use Rattle.text_judged.proofs.rest.Goals as goal
 
-pub returns-then-input-lt-TREE_SIZE : goal.returns-then-input-lt-TREE_SIZE
-returns-then-input-lt-TREE_SIZE c = search rest_none depth 7
-
 pub returns : goal.returns
-returns c = search rest_all depth 7
+returns c =
+    let s = c.args.input.now in
+    let n = c.min.result in
+    take_all (length s - n) (drop n s) (omega (arith, length-drop n s)) ∙ ap (λ (k : ℕ). drop k s) c.min.ensures ∙ drop_min 512 s
