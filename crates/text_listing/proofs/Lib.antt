@@ -1,2 +1,1 @@
-pub mod NameLaws
 pub mod Lines

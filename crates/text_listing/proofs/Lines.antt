@@ -31,6 +31,10 @@ module _ {old new : List ℕ} {at r : ℕ} where
   listing_text b n few room a c d e =
       wrote_most (wrote_then (wrote_then (wrote_then a (omega arith) c) (omega arith) d) (omega arith) e) (omega arith) 2169 (omega arith)
 
+-- a name
+pub named_text : {old new : List ℕ} {at r : ℕ} (kind : ℕ) (s : List ℕ) → s ≡ kind_name kind → length s ≤ 6 → at + 6 ≤ length old → Wrote (length s) old at s new r → Wrote 6 old at (kind_name kind) new r
+named_text {old} {new} {at} {r} kind s is short room w = subst (λ (t : List ℕ). Wrote 6 old at t new r) is (wrote_most w (omega arith) 6 short)
+
 -- one line more
 lines_snoc : (n : ℕ) (b : List ℕ) (v : ℕ) → entry_lines (suc n) b v ≡ entry_lines n b v ++ entry_line b (v + n)
 unfolding entry_lines

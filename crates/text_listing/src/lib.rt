@@ -5,31 +5,29 @@ ghost use Rattle.std.specs.Prelude.{◌≡◌, ◌+◌, ◌*◌, ◌≤◌, ◌<
 ghost use Rattle.rules.specs.Listing.{kind_name, entry_numbers, entry_line, entry_lines, listing};
 ghost use Rattle.rules.specs.Calls.{entry_count};
 ghost use Rattle.text_writing.specs.Writing.{Wrote};
-ghost use Rattle.text_listing.specs.Names.{Named};
 
-use rules::{PARALLEL, SILENT};
+use rules::{ACTIVITY, CHOICE, PARALLEL, SEQUENCE, SILENT};
 
-// The place of a kind's name in the names.
-#[tactic(auto, using(crate::proofs::NameLaws::name_low, crate::proofs::NameLaws::name_high, crate::proofs::NameLaws::name_five))]
-fn name_place(kind: u8) -> usize
-    ensures { Named kind result }
+// The name of a kind: five bytes, six for a loop.
+fn name_of(kind: u8) -> &'static [u8]
+    ensures { (result.now ≡ kind_name kind) × (length result.now ≤ 6) }
 {
     match kind {
-        SILENT..=PARALLEL => (kind as usize - 1) * 5,
-        _ => 25,
+        SILENT => b" tau ",
+        ACTIVITY => b" act ",
+        CHOICE => b" xor ",
+        SEQUENCE => b" seq ",
+        PARALLEL => b" par ",
+        _ => b" loop ",
     }
 }
 
-// The name of a kind: five bytes, six for a loop.
-#[tactic(auto, using(crate::proofs::NameLaws::named_text))]
-fn kind_name(out: &mut [u8], at: usize, kind: u8) -> usize
+#[tactic(auto, using(crate::proofs::Lines::named_text))]
+fn write_name(kind: u8, out: &mut [u8], at: usize) -> usize
     requires { at + 6 ≤ length out.old }
     ensures { Wrote 6 out.old at (kind_name kind) out.new result }
 {
-    let names: &[u8] = b" tau  act  xor  seq  par  loop ";
-    let from = name_place(kind);
-    let end = from + 5 + from / 25;
-    text_writing::text(out, at, &names[from..end])
+    text_writing::text(out, at, name_of(kind))
 }
 
 fn entry_numbers(argument: u8, size: u8, out: &mut [u8], at: usize) -> usize
@@ -49,7 +47,7 @@ fn entry_line(tree: &[u8], v: usize, out: &mut [u8], at: usize) -> usize
 {
     let e = v * 4;
     let numbered = text_writing::number(out, at, v, 3);
-    let named = kind_name(out, numbered, tree[e]);
+    let named = write_name(tree[e], out, numbered);
     entry_numbers(tree[e + 1], tree[e + 2], out, named)
 }
 
