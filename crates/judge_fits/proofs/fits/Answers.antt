@@ -2,6 +2,8 @@ use borrow.Author.Rules.{rules}
 use borrow.Author.Tests.{tests}
 use native.Mathlib.Omega.{arith}
 use mathlib.Core.Path.{refl, sym, ◌∙◌}
+use Prim.Native.Nat.{◌≤◌}
+use lib.ListN.{length}
 use lib.Seq.{length-take-le}
 use Rattle.std.proofs.lemmas.Iterator.{YieldsList-from_slice}
 use Rattle.std.proofs.lemmas.Iterator.Search.{all_from_yields_List}
@@ -11,7 +13,7 @@ use Rattle.judge_fits.proofs.MemoryLaws.{wiped}
 use Rattle.judge_fits.proofs.fits.Goals as goal
 
 pub slice_bounds-fill-end-2 : goal.slice_bounds-fill-end-2
-slice_bounds-fill-end-2 c = sym (length-take-le _ _ (omega (arith, c.requires.sized.room, c.fill.auto.work)))
+slice_bounds-fill-end-2 c = let room : 8128 ≤ length c.fill.new.work = omega (arith, c.requires.sized.room, c.fill.auto.work) in search (rules, length-take-le)
 
 pub returns-then-all : goal.returns-then-all
 unfolding has
