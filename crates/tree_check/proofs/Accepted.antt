@@ -15,7 +15,6 @@ use Rattle.rules.specs.Mining.{Log, mined}
 use Rattle.rules.specs.LogBlock.{weighed, check_right, four_bytes, sealed, first_set}
 use Rattle.rules.specs.TreeBlock.{entries, tree_block}
 use Rattle.rules.specs.Calls.{code_count, entry_count, formed, checking}
-use Rattle.rules.specs.declared.Answer.TheVariants.{Gives}
 use Rattle.rules.proofs.AnswerLaws.{demand_given}
 use Rattle.rules.proofs.Entries.{entries_length}
 use Rattle.rules.proofs.TreeBlockLaws.{zeros_length, filled, payload, filled_length, filled_front, tree_block_is, tree_block_length, tree_block_holds, held_front, block_one}
@@ -27,7 +26,9 @@ use Rattle.rules.proofs.MinedTree.{mined_well_formed, mined_fits}
 use Rattle.block_seal.proofs.CheckLaws.{sealed_bytes, sealed_right}
 use Rattle.block_padding.proofs.PaddingLaws.{unset_zero, zero_unset}
 use Rattle.tree_check.proofs.SealLaws.{sealed_same, right_sealed}
-use Rattle.tree_check.proofs.CheckingLaws.{whole_here, checking_whole}
+use Rattle.tree_check.proofs.CheckingLaws.{checking_right}
+use Rattle.std.specs.Prelude.{Ok}
+use Rattle.rules.specs.declared.Reason.TheVariants.{TreeBlock}
 
 -- b is the block of the well-formed tree t of n nodes, at most 127
 pub record Accepted (b : List ℕ) (n : ℕ) (t : Tree) : Type 0 where
@@ -64,11 +65,11 @@ module _ (b : List ℕ) (long : length b ≡ 512) (n : ℕ) (t : Tree) (h : Form
   tree_sealed = sealed_same (filled t) b (filled_front t h.fits ∙ payload_first)
 
 -- THEOREM: what checking accepts is the block of a well-formed tree of as many nodes as it answers
-pub accepted_tree : (b : List ℕ) → ((i : ℕ) → get_or b i 0 < 256) → (n : ℕ) → checking b ≡ Gives n → (t : Tree) × Accepted b n t
+pub accepted_tree : (b : List ℕ) → ((i : ℕ) → get_or b i 0 < 256) → (n : ℕ) → checking b ≡ Ok n → (t : Tree) × Accepted b n t
 unfolding checking
 accepted_tree b bytes n e =
-    let sized = demand_given (eqb (length b) 512) 8 0 _ n e in
-    let right = demand_given (check_right b) 8 0 (formed b) n sized.1 in
+    let sized = demand_given (eqb (length b) 512) TreeBlock 0 _ n e in
+    let right = demand_given (check_right b) TreeBlock 0 (formed b) n sized.1 in
     let long : length b ≡ 512 = eqb-true (length b) 512 sized.0 in
     let found = formed_tree b n right.1 in (
       found.0,
@@ -114,20 +115,20 @@ module _ (t : Tree) (w : WellFormed code_count t) (h : size t ≤ entry_count) w
   block_formed = record { well_formed = w; fits = h; held = tree_block_holds t (tree_block t) refl h; empty = empty_after; count = refl }
 
   -- THEOREM: the block of a well-formed tree is accepted with its number of nodes
-  pub block_accepted : checking (tree_block t) ≡ Gives (size t)
+  pub block_accepted : checking (tree_block t) ≡ Ok (size t)
   block_accepted =
-      sym (checking_whole (tree_block t) (Gives (size t)) (sym (whole_here (tree_block t) true (tree_block_length t) (sym block_right))) (sym (tree_formed (tree_block t) (size t) t block_formed)))
+      checking_right (tree_block t) (tree_block_length t) block_right ∙ tree_formed (tree_block t) (size t) t block_formed
 
 -- THEOREM: checking accepts the block of a well-formed tree
-pub tree_accepted : (b : List ℕ) (n : ℕ) (t : Tree) → Accepted b n t → checking b ≡ Gives n
-tree_accepted b n t a = ap checking (sym a.block) ∙ block_accepted t a.well_formed a.fits ∙ ap Gives a.count
+pub tree_accepted : (b : List ℕ) (n : ℕ) (t : Tree) → Accepted b n t → checking b ≡ Ok n
+tree_accepted b n t a = ap checking (sym a.block) ∙ block_accepted t a.well_formed a.fits ∙ ap Ok a.count
 
 -- THEOREM: no other tree, of any form, has the block
 pub accepted_one : (b : List ℕ) (n : ℕ) (t u : Tree) → Accepted b n t → tree_block u ≡ b → t ≡ u
 accepted_one b n t u a e = block_one t u a.fits (a.block ∙ sym e)
 
 -- THEOREM: checking accepts the block of a tree mined without heartbeats, with its number of nodes
-pub mined_accepted : (l : Log) → Below code_count l → Quiet l → checking (tree_block (mined code_count l)) ≡ Gives (size (mined code_count l))
+pub mined_accepted : (l : Log) → Below code_count l → Quiet l → checking (tree_block (mined code_count l)) ≡ Ok (size (mined code_count l))
 mined_accepted l s q =
     let h = mined_fits code_count l s (omega arith) in
     block_accepted (mined code_count l) (mined_well_formed code_count l s q) (omega arith)

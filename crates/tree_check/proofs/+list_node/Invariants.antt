@@ -1,7 +1,7 @@
-use Rattle.std.proofs.Common.{◌+◌, ◌≤◌, ◌-◌, ◌*◌}
+use Rattle.std.proofs.Common.{◌+◌, ◌≤◌, ◌-◌, ◌*◌, Option}
 use Rattle.rules.specs.Calls.{entry_count}
 use Rattle.tree_check.specs.Checks.{ListSays}
-use Rattle.tree_entries.specs.declared.Checked.{Checked}
+use Rattle.tree_entries.specs.declared.Met.{Met}
 use Rattle.tree_check.proofs.+list_node.Given as goal
 
 abbrev pub decreases-list : goal.decreases-list
@@ -11,9 +11,7 @@ abbrev pub decreases-node : goal.decreases-node
 decreases-node l = 2 * (entry_count - l.at)
 
 -- what the whole list says follows from what its rest says; each node of the rest has an entry before the end
-abbrev pub invariant-list-loop-left : goal.invariant-list-loop-left
-invariant-list-loop-left l =
-    (l.at ≤ l.next) × (l.next + l.left ≤ l.end) × ((r : Checked) → ListSays l.tree l.next l.left l.end l.met r → ListSays l.tree l.at l.count l.end l.initial.met r)
-
-abbrev pub decreases-list-loop-left : goal.decreases-list-loop-left
-decreases-list-loop-left l = l.left
+abbrev pub invariant-list-loop-done : goal.invariant-list-loop-done
+invariant-list-loop-done l =
+    (l.at ≤ l.met.next) × (l.met.next + (l.count - l.done) ≤ l.end)
+    × ((r : Option Met) → ListSays l.tree l.met.next (l.count - l.done) l.end l.met.seen r → ListSays l.tree l.at l.count l.end l.fn.seen r)
