@@ -19,6 +19,5 @@ pub fn choice_parts(g: Graph, cols: [Bits; CODE_COUNT], keep: CodeSet) -> Parts
     requires { Back g.rows cols }
     ensures { (result.n ≤ code_count) × (lists_of result ≡ choice_parts (meant g keep.bits)) }
 {
-    let rows = g.rows;
-    cut_components::components(rows, cols, Bond::Either, keep)
+    cut_components::components(g.rows, cols, Bond::Either, keep)
 }

@@ -5,13 +5,14 @@ use mathlib.Core.Bool.{Bool, true, false, not, ◌&&◌, beq}
 use Prim.Native.Nat.{ℕ, zero, suc, ◌+◌, ◌-◌, ◌^◌, ◌≤◌, ◌<◌}
 use native.Mathlib.Omega.{arith}
 use native.Mathlib.Numerals.{add-one}
-use lib.ListN.{length, take, drop, get_or, set, length-set}
+use lib.ListN.{length, take, drop, get_or, set, length-set, length-take, drop_of_length-le}
 use lib.Seq.{take-suc-set}
 use lib.Bits.{bit_and, bit_or, bit_xor, and_lt, xor_lt}
 use Rattle.rules.specs.Calls.{code_count}
 use Rattle.code_sets.specs.Bits.{has}
 use Rattle.code_sets.proofs.BitLaws.{has_and, has_xor, has_not}
-use Rattle.cut_parts.proofs.SetLaws.{rest, rest_none, meets_on, meets_off}
+use Rattle.std.proofs.lemmas.List.{at_drop_more, at_drop_all}
+use Rattle.cut_parts.proofs.SetLaws.{meets_on, meets_off}
 use Rattle.cut_components.specs.Joined.{join_on}
 
 -- one more set at the end, behind the first
@@ -26,54 +27,47 @@ first_set_lem zero kept v f h = absurd (omega arith)
 first_set_lem (suc m) [] v f h = absurd (omega arith)
 first_set_lem (suc m) (x ∷ xs) v f h = refl
 
--- i of the n sets are swept: the first of the m places of kept waits for the whole, the others are behind it
-pub record Sweep (row : ℕ) (all sets : List ℕ) (n i whole : ℕ) (kept : List ℕ) (m : ℕ) : Type 0 where
-  pub at : i ≤ n
+-- i of the sets are swept: the first of the m places of kept waits for the whole, the others are behind it
+pub record Sweep (row : ℕ) (all sets : List ℕ) (i whole : ℕ) (kept : List ℕ) (m : ℕ) : Type 0 where
   pub few : m ≤ i + 1
   pub first : 1 ≤ m
   pub size : length kept ≡ code_count
-  pub same : all ≡ join_on row whole (drop 1 (take m kept)) (drop i (take n sets))
+  pub same : all ≡ join_on row whole (drop 1 (take m kept)) (drop i sets)
 
-pub sweep_none : (row whole n : ℕ) (sets kept : List ℕ) → length kept ≡ code_count → Sweep row (join_on row whole [] (take n sets)) sets n 0 whole kept 1
-sweep_none row whole n sets kept z =
+pub sweep_none : (row whole : ℕ) (sets kept : List ℕ) → length kept ≡ code_count → Sweep row (join_on row whole [] sets) sets 0 whole kept 1
+sweep_none row whole sets kept z =
     record {
-      at = omega arith;
       few = omega arith;
       first = omega arith;
       size = z;
-      same = ap (λ (xs : List ℕ). join_on row whole xs (take n sets)) (sym (rest_none kept 1 1 (omega arith)));
+      same = ap (λ (xs : List ℕ). join_on row whole xs sets) (sym (drop_of_length-le (take 1 kept) {i = 1} (omega (arith, length-take 1 kept))));
     }
 
-module _ (row : ℕ) (all sets : List ℕ) (n i whole : ℕ) (kept : List ℕ) (m : ℕ) (s : Sweep row all sets n i whole kept m) where
-  module _ (low : i < n) (room : n < code_count) (table : length sets ≡ code_count) where
-    next : drop i (take n sets) ≡ get_or sets i 0 ∷ drop (i + 1) (take n sets)
-    next = rest sets n i low (omega arith)
-
-    pub sweep_met : (bit_and (get_or sets i 0) row ≡ 0 → ⊥) → Sweep row all sets n (i + 1) (bit_or whole (get_or sets i 0)) kept m
+module _ (row : ℕ) (all sets : List ℕ) (i whole : ℕ) (kept : List ℕ) (m : ℕ) (s : Sweep row all sets i whole kept m) where
+  module _ (low : i < length sets) (room : length sets < code_count) where
+    pub sweep_met : (bit_and (get_or sets i 0) row ≡ 0 → ⊥) → Sweep row all sets (i + 1) (bit_or whole (get_or sets i 0)) kept m
     sweep_met h =
         record {
-          at = omega arith;
           few = omega (arith, s.few);
           first = s.first;
           size = s.size;
-          same = s.same ∙ ap (join_on row whole (drop 1 (take m kept))) next ∙ rw (meets_on row (get_or sets i 0) h);
+          same = s.same ∙ at_drop_more (join_on row whole (drop 1 (take m kept))) sets i 0 low ∙ rw (meets_on row (get_or sets i 0) h);
         }
 
-    pub sweep_unmet : bit_and (get_or sets i 0) row ≡ 0 → Sweep row all sets n (i + 1) whole (set kept m (get_or sets i 0)) (m + 1)
+    pub sweep_unmet : bit_and (get_or sets i 0) row ≡ 0 → Sweep row all sets (i + 1) whole (set kept m (get_or sets i 0)) (m + 1)
     sweep_unmet h =
         let p = get_or sets i 0 in
         record {
-          at = omega arith;
           few = omega (arith, s.few);
           first = omega arith;
           size = length-set kept m p ∙ s.size;
-          same = s.same ∙ ap (join_on row whole (drop 1 (take m kept))) next
-              ∙ rw (meets_off row p h) (ap (λ (xs : List ℕ). join_on row whole xs (drop (i + 1) (take n sets))) (sym (behind_more kept m p s.first (omega (arith, s.few, s.size)))));
+          same = s.same ∙ at_drop_more (join_on row whole (drop 1 (take m kept))) sets i 0 low
+              ∙ rw (meets_off row p h) (ap (λ (xs : List ℕ). join_on row whole xs (drop (i + 1) sets)) (sym (behind_more kept m p s.first (omega (arith, s.few, s.size)))));
         }
 
   -- no set is left, and the whole is written to its place
-  pub sweep_end : n ≤ i → take m (set kept 0 whole) ≡ all
-  sweep_end l = first_set_lem m kept whole s.first (omega (arith, s.size)) ∙ sym (s.same ∙ ap (join_on row whole (drop 1 (take m kept))) (rest_none sets n i l))
+  pub sweep_end : length sets ≤ i → take m (set kept 0 whole) ≡ all
+  sweep_end l = first_set_lem m kept whole s.first (omega (arith, s.size)) ∙ sym (s.same ∙ at_drop_all (join_on row whole (drop 1 (take m kept))) sets i l)
 
 not_not : (b : Bool) → not (not b) ≡ b
 not_not true = refl

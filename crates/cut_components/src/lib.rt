@@ -12,7 +12,7 @@ use cut_parts::Parts;
 use rules::{CODE_COUNT, NO_CODE};
 
 // What joins two codes, by the edges between them: an edge either way, both edges or none, or not both.
-#[derive(Clone, Copy)]
+#[derive(Clone, Copy, Debug, PartialEq, Eq)]
 pub enum Bond {
     Either,
     Alike,
@@ -35,16 +35,11 @@ fn joined(parts: Parts, row: Bits, code: u8) -> Parts
     requires { (parts.n < code_count) × (code < code_count) }
     ensures { (result.n ≤ parts.n + 1) × (sets_of result ≡ join_on row (2 ^ code) [] (sets_of parts)) }
 {
-    let n = parts.n;
-    let sets = parts.sets;
     let mut whole: Bits = 1 << code;
     // The others go to a table of their own, behind a place for the one: parts that grow by value are copied at every turn.
     let mut kept = [0; CODE_COUNT];
     let mut m: usize = 1;
-    let mut i: usize = 0;
-    while i < n {
-        let part = sets[i];
-        i += 1;
+    for &part in &parts.sets[..parts.n] {
         if part & row != 0 {
             whole |= part;
         } else {
@@ -66,11 +61,9 @@ pub fn components(
     ensures { Components rows cols bond within.bits result }
 {
     let mut parts = Parts::new();
-    let mut c: u8 = NO_CODE;
-    while 0 < c {
-        c -= 1;
+    for c in (0..NO_CODE).rev() {
         let k = c as usize;
-        if (within.bits >> c) % 2 == 1 {
+        if within.has_first(c) {
             parts = joined(parts, bonds(bond, rows[k], cols[k]), c);
         }
     }

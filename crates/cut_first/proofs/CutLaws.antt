@@ -7,7 +7,7 @@ use Prim.Native.Nat.{ℕ, ◌≤◌, ◌<◌}
 use native.Mathlib.Omega.{arith}
 use lib.ListN.{length}
 use borrow.Author.Tests.{lt-ltb}
-use Rattle.rules.specs.declared.Operator.{Operator}
+use Rattle.std.specs.Prelude.{Option, Some, None, is_some}
 use Rattle.rules.specs.declared.Operator.TheVariants.{Choice, Sequence, Parallel, Loop}
 use Rattle.rules.specs.Words.{pick, any, keep, from}
 use Rattle.rules.specs.Trees.{Op, choice, sequence, parallel, loop}
@@ -28,7 +28,6 @@ use Rattle.cut_parts.specs.declared.Parts.{Parts}
 use Rattle.cut_parts.specs.Sets.{lists_of}
 use Rattle.cut_parts.proofs.SetLaws.{number}
 use Rattle.cut_loop.specs.Roomed.{roomed}
-use Rattle.cut_first.specs.declared.Found.TheVariants.{Nothing, By}
 use Rattle.cut_first.specs.declared.Cut.{Cut}
 use Rattle.cut_first.specs.Cuts.{Inside, cut_else, cut_shape, WithoutLoop, CutOf}
 
@@ -117,7 +116,7 @@ abbrev after_choice : mining.Graph → Shape → Shape
 after_choice g s = or_else sequence (sequence_parts g) (or_else parallel (parallel_parts g) s)
 
 module _ (g : Graph) (kept : ℕ) (ch : Parts) (choices : Looked ch (choice_parts (meant g kept))) where
-  pub first_choice : 2 ≤ ch.n → WithoutLoop g kept (record { found = By Choice; parts = ch })
+  pub first_choice : 2 ≤ ch.n → WithoutLoop g kept (Some (record { operator = Choice; parts = ch }))
   first_choice h =
       record {
         few = choices.few;
@@ -129,7 +128,7 @@ module _ (g : Graph) (kept : ℕ) (ch : Parts) (choices : Looked ch (choice_part
     no_choice : (s : Shape) → after_choice (meant g kept) s ≡ or_else choice (choice_parts (meant g kept)) (after_choice (meant g kept) s)
     no_choice s = cut_missed choice (after_choice (meant g kept) s) choices none
 
-    pub first_sequence : 2 ≤ se.n → WithoutLoop g kept (record { found = By Sequence; parts = se })
+    pub first_sequence : 2 ≤ se.n → WithoutLoop g kept (Some (record { operator = Sequence; parts = se }))
     first_sequence h =
         record {
           few = few;
@@ -141,7 +140,7 @@ module _ (g : Graph) (kept : ℕ) (ch : Parts) (choices : Looked ch (choice_part
       no_sequence : Inside g kept → (s : Shape) → or_else parallel (parallel_parts (meant g kept)) s ≡ or_else choice (choice_parts (meant g kept)) (after_choice (meant g kept) s)
       no_sequence i s = cut_missed sequence (or_else parallel (parallel_parts (meant g kept)) s) (sequences i) later ∙ no_choice s
 
-      pub first_parallel : 2 ≤ pa.n → WithoutLoop g kept (record { found = By Parallel; parts = pa })
+      pub first_parallel : 2 ≤ pa.n → WithoutLoop g kept (Some (record { operator = Parallel; parts = pa }))
       first_parallel h =
           record {
             few = parallels.few;
@@ -149,10 +148,10 @@ module _ (g : Graph) (kept : ℕ) (ch : Parts) (choices : Looked ch (choice_part
             shape = λ i s. cut_found parallel s parallels h ∙ no_sequence i s;
           }
 
-      pub none_of_three : pa.n < 2 → WithoutLoop g kept (record { found = Nothing; parts = pa })
+      pub none_of_three : pa.n < 2 → WithoutLoop g kept None
       none_of_three h =
           record {
-            few = parallels.few;
+            few = tt;
             two = tt;
             shape = λ i s. cut_missed parallel s parallels h ∙ no_sequence i s;
           }
@@ -183,29 +182,25 @@ module _ (g : Graph) (kept : ℕ) (later : Inside g kept → Later (meant g kept
   unfolding meant
   loops i = record { size = k.size; few = k.few; is = k.is ∙ room (meant g kept) (length_listed code_count kept) (later_choice (meant g kept) (later i)) }
 
-  pub first_loop : 2 ≤ lo.n → CutOf g kept (record { found = By Loop; parts = lo })
+  pub first_loop : 2 ≤ lo.n → CutOf g kept (Some (record { operator = Loop; parts = lo }))
   unfolding cut_shape cut_or
   first_loop h =
       let none = flower (listed code_count kept) in
       record { few = k.few; two = h; shape = λ i. cut_found loop none (loops i) h ∙ later i (or_else loop (loop_parts (meant g kept)) none) }
 
-  pub none_of_four : lo.n < 2 → CutOf g kept (record { found = Nothing; parts = lo })
+  pub none_of_four : lo.n < 2 → CutOf g kept None
   unfolding cut_shape cut_or
   none_of_four h =
       let none = flower (listed code_count kept) in
-      record { few = k.few; two = tt; shape = λ i. cut_missed loop none (loops i) h ∙ later i (or_else loop (loop_parts (meant g kept)) none) }
+      record { few = tt; two = tt; shape = λ i. cut_missed loop none (loops i) h ∙ later i (or_else loop (loop_parts (meant g kept)) none) }
 
 -- ---- what a cut says
 
-pub cut_none : (c : Cut) → c.found ≡ Nothing → (s : Shape) → cut_else c s ≡ s
-cut_none c e s = rw e refl
+pub cut_none : (r : Option Cut) → is_some r ≡ false → (s : Shape) → cut_else r s ≡ s
+cut_none None e s = refl
+cut_none (Some c) e s = cc
 
-pub cut_some : (c : Cut) (o : Operator) → c.found ≡ By o → (g : Graph) (kept : ℕ) → WithoutLoop g kept c → CutOf g kept c
+pub cut_some : (r : Option Cut) → is_some r ≡ true → (g : Graph) (kept : ℕ) → WithoutLoop g kept r → CutOf g kept r
 unfolding cut_shape cut_or
-cut_some c o e g kept w =
-    let none = flower (listed code_count kept) in
-    record {
-      few = w.few;
-      two = w.two;
-      shape = λ i. (let same : cut_else c none ≡ cut_else c (or_else loop (loop_parts (meant g kept)) none) = rw e refl in same) ∙ w.shape i (or_else loop (loop_parts (meant g kept)) none);
-    }
+cut_some None e g kept w = cc
+cut_some (Some c) e g kept w = record { few = w.few; two = w.two; shape = λ i. w.shape i (or_else loop (loop_parts (meant g kept)) (flower (listed code_count kept))) }

@@ -9,71 +9,59 @@ use cut_parts::Parts;
 use graph_rows::Graph;
 use rules::{CODE_COUNT, Operator};
 
-// Whether a graph has a cut, and by which operator.
-#[derive(Clone, Copy)]
-pub enum Found {
-    Nothing,
-    By(Operator),
-}
-
-// What was found, and the parts that were looked at last: those of the cut, if there is one.
-#[derive(Clone, Copy)]
+// A cut: its operator, and two parts or more.
+#[derive(Clone, Copy, Debug, PartialEq, Eq)]
 pub struct Cut {
-    pub found: Found,
+    pub operator: Operator,
     pub parts: Parts,
 }
 
 // The first of choice, sequence and parallel.
-fn cut_without_loop(g: Graph, cols: [Bits; CODE_COUNT], keep: CodeSet) -> Cut
+fn cut_without_loop(g: Graph, cols: [Bits; CODE_COUNT], keep: CodeSet) -> Option<Cut>
     requires { Back g.rows cols }
     ensures { WithoutLoop g keep.bits result }
 {
-    let rows = g.rows;
     let choice = cut_choice::choice_parts(g, cols, keep);
     if 2 <= choice.n {
-        return Cut {
-            found: Found::By(Operator::Choice),
+        return Some(Cut {
+            operator: Operator::Choice,
             parts: choice,
-        };
+        });
     }
-    let sequence = cut_sequence::sequence_parts(rows, keep);
+    let sequence = cut_sequence::sequence_parts(g.rows, keep);
     if 2 <= sequence.n {
-        return Cut {
-            found: Found::By(Operator::Sequence),
+        return Some(Cut {
+            operator: Operator::Sequence,
             parts: sequence,
-        };
+        });
     }
     let parallel = cut_parallel::parallel_parts(g, cols, keep);
     if 2 <= parallel.n {
-        return Cut {
-            found: Found::By(Operator::Parallel),
+        return Some(Cut {
+            operator: Operator::Parallel,
             parts: parallel,
-        };
+        });
     }
-    Cut {
-        found: Found::Nothing,
-        parts: parallel,
-    }
+    None
 }
 
 // The first cut with two parts or more; fewer than two codes have a loop at most.
-pub fn cut_of(g: Graph, keep: CodeSet) -> Cut
+pub fn cut_of(g: Graph, keep: CodeSet) -> Option<Cut>
     ensures { CutOf g keep.bits result }
 {
-    let rows = g.rows;
-    let cols = graph_reverse::transpose(rows);
+    let cols = graph_reverse::transpose(g.rows);
     if 2 <= keep.count() {
         let cut = cut_without_loop(g, cols, keep);
-        let found = cut.found;
-        if let Found::By(_) = found {
+        if cut.is_some() {
             return cut;
         }
     }
     let parts = cut_loop::loop_parts(g, cols, keep);
     if 2 <= parts.n {
-        let found = Found::By(Operator::Loop);
-        return Cut { found, parts };
+        return Some(Cut {
+            operator: Operator::Loop,
+            parts,
+        });
     }
-    let found = Found::Nothing;
-    Cut { found, parts }
+    None
 }

@@ -1,2 +1,1 @@
-pub mod PartLaws
 pub mod LoopLaws

@@ -70,22 +70,21 @@ module _ (m kept : ℕ) (edge : Rel) (starts ends border rest : ℕ)
         ∙ ap (keep (is_redo g (listed m border))) (parts ∙ ap (components (either edge)) (sym rest_is))
         ∙ ap (λ (bs : List ℕ). keep (is_redo g bs) (components (either edge) (keep (λ a. not (on_border g a)) (listed m kept)))) (sym border_is)
 
-    -- THEOREM: the codes that no redo part has are the body
-    pub body_is : (body : ℕ) → ((c : ℕ) → has body c ≡ (has kept c && not (any (λ p. has p c) (keep (λ p. not (meets unfit p)) sets)))) →
-        listed m body ≡ body_part (drawn m kept edge starts ends)
-    unfolding body_part
-    body_is body h =
-        let redos : List ℕ = keep (λ p. not (meets unfit p)) sets in
-        sym (ap (λ (rs : List (List ℕ)). keep (λ a. not (any (mem a) rs)) (listed m kept)) (sym redos_are)
-        ∙ keep_listed m kept body (λ a. not (any (mem a) (each (listed m) redos)))
-        (λ c l. h c ∙ ap (λ (b : Bool). has kept c && not b)
-        (sym (any_each (mem c) (listed m) redos ∙ any_ext (λ p. mem c (listed m p)) (λ p. has p c) redos (λ p i. mem_listed m p c l)))))
+module _ (m kept : ℕ) (edge : Rel) (starts ends : ℕ) (redos : List ℕ) (are : each (listed m) redos ≡ redo_parts (drawn m kept edge starts ends))
+    (body : ℕ) (left : (c : ℕ) → has body c ≡ (has kept c && not (any (λ p. has p c) redos))) where
+  -- THEOREM: the codes that no redo part has are the body
+  pub body_is : listed m body ≡ body_part (drawn m kept edge starts ends)
+  unfolding body_part
+  body_is =
+      sym (ap (λ (rs : List (List ℕ)). keep (λ a. not (any (mem a) rs)) (listed m kept)) (sym are)
+      ∙ keep_listed m kept body (λ a. not (any (mem a) (each (listed m) redos)))
+      (λ c l. left c ∙ ap (λ (b : Bool). has kept c && not b)
+      (sym (any_each (mem c) (listed m) redos ∙ any_ext (λ p. mem c (listed m p)) (λ p. has p c) redos (λ p i. mem_listed m p c l)))))
 
-    -- the body and the redo parts
-    pub loop_is : (body : ℕ) (out : List ℕ) → ((c : ℕ) → has body c ≡ (has kept c && not (any (λ p. has p c) (keep (λ p. not (meets unfit p)) sets)))) →
-        out ≡ body ∷ keep (λ p. not (meets unfit p)) sets → each (listed m) out ≡ loop_parts (drawn m kept edge starts ends)
-    unfolding loop_parts
-    loop_is body out h o = ap (each (listed m)) o ∙ ap₂ ◌∷◌ (body_is body h) redos_are
+  -- the body and the redo parts
+  pub loop_is : (out : List ℕ) → out ≡ body ∷ redos → each (listed m) out ≡ loop_parts (drawn m kept edge starts ends)
+  unfolding loop_parts
+  loop_is out o = ap (each (listed m)) o ∙ ap₂ ◌∷◌ body_is are
 
 -- ---- room for the body
 

@@ -15,9 +15,8 @@ use Rattle.rules.proofs.BoolLaws.{or_cases, and_drop}
 use Rattle.rules.proofs.ListLaws.{Has, from_has, keep_both, keep_ext}
 use Rattle.code_sets.specs.Bits.{has, listed}
 use Rattle.code_sets.proofs.BitLaws.{has_or}
-use Rattle.code_sets.proofs.ListedLaws.{mem_listed}
+use Rattle.code_sets.proofs.ListedLaws.{mem_listed, listed_none}
 use Rattle.cut_pairs.specs.Pairs.{earlier, pair_at, pair_all}
-use Rattle.cut_pairs.proofs.PlaceLaws.{listed_none}
 use Rattle.cut_pairs.proofs.PairLaws.{has_at, has_set}
 
 -- all places are below n

@@ -17,35 +17,22 @@ pub fn places_with(parts: Parts, codes: Bits, others: Bits) -> Bits
     requires { parts.n ≤ code_count }
     ensures { listed code_count result ≡ places_of 0 (λ p. meets codes p && not (meets others p)) (sets_of parts) }
 {
-    let n = parts.n;
-    let sets = parts.sets;
     let mut places: Bits = 0;
-    let mut k: u8 = 0;
-    while (k as usize) < n {
-        let part = sets[k as usize];
-        let bit: Bits = 1 << k;
-        k += 1;
-        if part & codes != 0 {
-            if part & others == 0 {
-                places |= bit;
-            }
+    for (k, &part) in parts.sets[..parts.n].iter().enumerate() {
+        if part & codes != 0 && part & others == 0 {
+            places |= 1 << k;
         }
     }
     places
 }
 
-// The part at the first of some places becomes one with the part at the first of others, at the earlier place.
-fn join_pair(sets: &mut [Bits], places: Bits, others: Bits)
-    requires { (length sets.old ≡ code_count) × (0 < places) × (0 < others) }
-    ensures { sets.new ≡ pair_at 0 bit_or (head_of (listed code_count places)) (head_of (listed code_count others)) sets.old }
+// The parts at two places become one, at the earlier place.
+fn join_pair(sets: &mut [Bits], i: u8, j: u8)
+    requires { (i < length sets.old) × (j < length sets.old) }
+    ensures { sets.new ≡ pair_at 0 bit_or i j sets.old }
 {
-    let i = CodeSet { bits: places }.first() as usize;
-    let j = CodeSet { bits: others }.first() as usize;
-    let earlier = CodeSet {
-        bits: places | others,
-    }
-    .first() as usize;
-    sets[earlier] = sets[i] | sets[j];
+    let earlier = i.min(j);
+    sets[earlier as usize] = sets[i as usize] | sets[j as usize];
 }
 
 // The i-th part of those at some places becomes one with the i-th of those at others, at the earlier place.
@@ -53,14 +40,9 @@ pub fn join_pairs(sets: &mut [Bits], places: Bits, others: Bits)
     requires { length sets.old ≡ code_count }
     ensures { sets.new ≡ pair_all 0 bit_or (listed code_count places) (listed code_count others) sets.old }
 {
-    let mut ours = places;
-    let mut theirs = others;
-    while 0 < ours {
-        if theirs == 0 {
-            return;
-        }
-        join_pair(sets, ours, theirs);
-        ours &= ours - 1;
-        theirs &= theirs - 1;
+    let ours = CodeSet { bits: places }.codes();
+    let theirs = CodeSet { bits: others }.codes();
+    for (i, j) in ours.zip(theirs) {
+        join_pair(sets, i, j);
     }
 }

@@ -1,14 +1,14 @@
 // Parallel: parts made of the components of the codes that are not joined both ways, each with a start and an end.
 #![tactic(auto)]
 
-ghost use Rattle.std.specs.Prelude.{◌≡◌, List, ◌&&◌, ℕ, ◌≤◌, length, take};
-ghost use Rattle.rules.specs.Words.{Has, keep};
+ghost use Rattle.std.specs.Prelude.{◌≡◌, List, ℕ, ◌≤◌};
+ghost use Rattle.rules.specs.Words.{Has};
 ghost use Rattle.rules.specs.Mining.{with_rest, parallel_parts};
 ghost use Rattle.rules.specs.Calls.{code_count};
 ghost use Rattle.code_sets.specs.Bits.{listed};
 ghost use Rattle.graph_rows.specs.Edges.{meant};
 ghost use Rattle.graph_reverse.specs.Reverse.{Back};
-ghost use Rattle.cut_parts.specs.Sets.{sets_of, lists_of, meets};
+ghost use Rattle.cut_parts.specs.Sets.{sets_of, lists_of};
 ghost use Rattle.cut_parallel.specs.Making.{made_on};
 
 use code_sets::{Bits, CodeSet};
@@ -17,37 +17,16 @@ use cut_parts::Parts;
 use graph_rows::Graph;
 use rules::CODE_COUNT;
 
-// Those of the first n parts that have a start and an end are moved up to the front: how many they are.
-fn move_up(sets: &mut [Bits], n: usize, starts: Bits, ends: Bits) -> usize
-    requires { (length sets.old ≡ code_count) × (n ≤ code_count) }
-    ensures { (result ≤ n) × (take result sets.new ≡ keep (λ p. meets starts p && meets ends p) (take n sets.old)) }
-{
-    let mut made: usize = 0;
-    let mut i: usize = 0;
-    while i < n {
-        let part = sets[i];
-        i += 1;
-        if part & starts != 0 {
-            if part & ends != 0 {
-                sets[made] = part;
-                made += 1;
-            }
-        }
-    }
-    made
-}
-
 // The parts that components make: those with a start and an end, and the pairs of those with only starts and only ends.
-fn made_parts(components: Parts, starts: Bits, ends: Bits) -> Parts
-    requires { components.n ≤ code_count }
-    ensures { (result.n ≤ components.n) × (sets_of result ≡ made_on starts ends (sets_of components)) }
+fn made_parts(mut parts: Parts, starts: Bits, ends: Bits) -> Parts
+    requires { parts.n ≤ code_count }
+    ensures { (result.n ≤ parts.n) × (sets_of result ≡ made_on starts ends (sets_of parts)) }
 {
-    let only_starts = cut_pairs::places_with(components, starts, ends);
-    let only_ends = cut_pairs::places_with(components, ends, starts);
-    let mut sets = components.sets;
-    cut_pairs::join_pairs(&mut sets, only_starts, only_ends);
-    let n = move_up(&mut sets, components.n, starts, ends);
-    Parts { n, sets }
+    let only_starts = cut_pairs::places_with(parts, starts, ends);
+    let only_ends = cut_pairs::places_with(parts, ends, starts);
+    cut_pairs::join_pairs(&mut parts.sets, only_starts, only_ends);
+    parts.retain(|part| part & starts != 0 && part & ends != 0);
+    parts
 }
 
 // The codes that stand in no part join the first, the one with the smallest code.
@@ -65,8 +44,7 @@ pub fn parallel_parts(g: Graph, cols: [Bits; CODE_COUNT], keep: CodeSet) -> Part
     requires { Back g.rows cols }
     ensures { (result.n ≤ code_count) × (lists_of result ≡ parallel_parts (meant g keep.bits)) }
 {
-    let rows = g.rows;
-    let components = cut_components::components(rows, cols, Bond::NotBoth, keep);
+    let components = cut_components::components(g.rows, cols, Bond::NotBoth, keep);
     let made = made_parts(components, g.starts.bits, g.ends.bits);
     with_rest(made, keep.bits)
 }

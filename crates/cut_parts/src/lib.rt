@@ -1,7 +1,7 @@
 // Some sets of codes in order, as the parts of a cut.
 #![tactic(auto)]
 
-ghost use Rattle.std.specs.Prelude.{◌≡◌, [], ◌∷◌, ◌++◌, Bool, not, ◌&&◌, ℕ, ◌+◌, ◌≤◌, ◌<◌, take, drop};
+ghost use Rattle.std.specs.Prelude.{◌≡◌, [], ◌∷◌, ◌++◌, Bool, not, ◌&&◌, ℕ, ◌+◌, ◌≤◌, ◌<◌, length, take, drop};
 ghost use Rattle.rules.specs.Words.{any, keep};
 ghost use Rattle.rules.specs.Calls.{code_count};
 ghost use Rattle.code_sets.specs.Bits.{has};
@@ -43,6 +43,7 @@ impl Parts {
         requires few { self.old.n ≤ code_count }
         requires test { F.IsAlwaysCallable test }
         ensures few { self.new.n ≤ self.old.n }
+        ensures size { length self.new.sets ≡ code_count }
         ensures kept { (p : ℕ → Bool) → ((x : ℕ) (b : Bool) → F.post test x b → b ≡ p x) → sets_of self.new ≡ keep p (sets_of self.old) }
     {
         let mut kept: usize = 0;

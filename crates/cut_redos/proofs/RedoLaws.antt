@@ -1,8 +1,7 @@
 -- The redo conditions as tests on sets, over any number of codes m.
 use mathlib.Core.Path.{◌≡◌, refl, sym, ◌∙◌, ap, fun_ext}
-use mathlib.Core.Logic.{◌⊎◌, inl, inr}
 use mathlib.Core.List.{List, [], ◌∷◌}
-use mathlib.Core.Bool.{Bool, true, false, cond, not, ◌&&◌}
+use mathlib.Core.Bool.{Bool, true, false, ◌&&◌}
 use Prim.Native.Nat.{ℕ, ◌^◌, ◌<◌}
 use native.Mathlib.Nat.{lt_of_le_of_lt}
 use lib.Dec.{eqb}
@@ -98,13 +97,3 @@ redo_codes g border p = ap (λ (t : ℕ → Bool). all t p) (fun_ext (λ (x : �
         (all_and (λ a. implies (g.edge a x) (g.end a)) (λ a. implies (g.edge x a) (g.start a)) border)
         ∙ sorted (all (λ a. implies (g.edge a x) (g.end a)) border) (all (λ a. implies (g.edge x a) (g.start a)) border)
         (implies (any (g.edge x) border) (all (λ a. implies (g.start a) (g.edge x a)) border)) (implies (any (λ a. g.edge a x) border) (all (λ a. implies (g.end a) (g.edge a x)) border))
-
--- ---- the digit that says that a code is unfit
-
-pub digit_of : (may : Bool) (d : ℕ) → d ≡ cond may 0 1 → (d ≡ 0) ⊎ (d ≡ 1)
-digit_of true d e = inl e
-digit_of false d e = inr e
-
-pub digit_is : (may : Bool) (d : ℕ) → d ≡ cond may 0 1 → eqb d 1 ≡ not may
-digit_is true d e = ap (λ (x : ℕ). eqb x 1) e
-digit_is false d e = ap (λ (x : ℕ). eqb x 1) e

@@ -16,37 +16,28 @@ fn facing(border: Bits, edges: Bits, gates: Bits) -> bool
     ensures { result ≡ faces (has edges) (has gates) (listed code_count border) }
 {
     let met = border & edges;
-    if met == 0 {
-        return true;
-    }
-    met == border & gates
+    met == 0 || met == border & gates
 }
 
-// 1 where a code with these edges out and in cannot stand in a redo part, else 0.
-fn unfit(out: Bits, into: Bits, border: Bits, starts: Bits, ends: Bits) -> Bits
-    ensures { result ≡ cond (faces (has out) (has starts) (listed code_count border) && faces (has into) (has ends) (listed code_count border)) 0 1 }
+// Can a code with these edges out and in stand in a redo part?
+fn fit(out: Bits, into: Bits, border: Bits, starts: Bits, ends: Bits) -> bool
+    ensures { result ≡ (faces (has out) (has starts) (listed code_count border) && faces (has into) (has ends) (listed code_count border)) }
 {
-    if facing(border, out, starts) {
-        if facing(border, into, ends) {
-            return 0;
-        }
-    }
-    1
+    facing(border, out, starts) && facing(border, into, ends)
 }
 
 // The codes that cannot stand in a redo part, by their edges to the border.
 pub fn unfit_codes(g: Graph, cols: [Bits; CODE_COUNT], border: Bits) -> Bits
     ensures { (c : ℕ) → has result c ≡ (ltb c code_count && not (may_redo (edge_of g.rows c) (edge_of cols c) (meant g border))) }
 {
-    let rows = g.rows;
     let starts = g.starts.bits;
     let ends = g.ends.bits;
     let mut set: Bits = 0;
-    let mut c: u8 = 0;
-    while c < NO_CODE {
+    for c in 0..NO_CODE {
         let i = c as usize;
-        set |= unfit(rows[i], cols[i], border, starts, ends) << c;
-        c += 1;
+        if !fit(g.rows[i], cols[i], border, starts, ends) {
+            set |= 1 << c;
+        }
     }
     set
 }

@@ -18,18 +18,11 @@ fn first_reached(parts: Parts, row: Bits) -> usize
     requires { parts.n ≤ code_count }
     ensures { (result ≤ parts.n) × ((p : ℕ) → place_on code_count row p (sets_of parts) ≡ take result (sets_of parts) ++ (p ∷ drop result (sets_of parts))) }
 {
-    let n = parts.n;
-    let sets = parts.sets;
-    let mut i: usize = 0;
-    while i < n {
-        let part = CodeSet { bits: sets[i] };
-        let c = part.first();
-        if (row >> c) % 2 == 1 {
-            return i;
-        }
-        i += 1;
-    }
-    i
+    let reached = CodeSet { bits: row };
+    parts.sets[..parts.n]
+        .iter()
+        .position(|&part| reached.has_first(CodeSet { bits: part }.first()))
+        .unwrap_or(parts.n)
 }
 
 // The parts in the order of a relation, each before the first that it reaches.
@@ -37,15 +30,10 @@ fn in_order(parts: Parts, to: [Bits; CODE_COUNT]) -> Parts
     requires { parts.n ≤ code_count }
     ensures { (result.n ≡ parts.n) × (lists_of result ≡ ordered (edge_of to) (lists_of parts)) }
 {
-    let sets = parts.sets;
     let mut out = Parts::new();
-    let mut i = parts.n;
-    while 0 < i {
-        i -= 1;
-        let part = sets[i];
+    for &part in parts.sets[..parts.n].iter().rev() {
         let c = CodeSet { bits: part }.first();
-        let k = c as usize;
-        let at = first_reached(out, to[k]);
+        let at = first_reached(out, to[c as usize]);
         out = cut_parts::inserted(out, at, part);
     }
     out

@@ -1,10 +1,9 @@
 -- Tables of m rows of m places: what owning one tells, its edges, and a table that a loop fills row by row.
 use mathlib.Core.Path.{◌≡◌, refl, sym, ap, ap₂, subst, ◌∙◌}
-use mathlib.Core.Logic.{◌⊎◌, inl, inr, ⊎_elim}
+use mathlib.Core.Logic.{⊎_elim}
 use mathlib.Core.List.{List, [], ◌∷◌, map, map-id}
 use mathlib.Core.Bool.{Bool, true, false, ◌||◌, ◌&&◌}
 use Prim.Native.Nat.{ℕ, zero, suc, ◌+◌, ◌*◌, ◌%◌, ◌^◌, ◌≤◌, ◌<◌}
-use native.Mathlib.Nat.{zero-mul, zero-mod}
 use native.Mathlib.Omega.{arith}
 use borrow.Author.Count.{below_more}
 use borrow.Author.Tests.{eqb-true, eqb-false, lt-ltb, le-ltb}
@@ -106,33 +105,28 @@ pub and_on : (b : Bool) → (b && true) ≡ b
 and_on true = refl
 and_on false = refl
 
--- a digit at the place i
-has_digit : (w d i a : ℕ) → i < w → (d ≡ 0) ⊎ (d ≡ 1) → has ((d * 2 ^ i) % 2 ^ w) a ≡ (eqb a i && eqb d 1)
-has_digit w d i a l (inl e) = rw e (ap (λ (x : ℕ). has (x % 2 ^ w) a) (zero-mul (2 ^ i)) ∙ ap (λ (x : ℕ). has x a) (zero-mod (2 ^ w)) ∙ has_zero a ∙ sym (and_off (eqb a i)))
-has_digit w d i a l (inr e) = rw e (ap (λ (x : ℕ). has x a) (one_shl w i l) ∙ has_pow i a ∙ sym (and_on (eqb a i)))
-
 pub ltb_more : (a i : ℕ) → (a ≡ i → ⊥) → ltb a i ≡ ltb a (i + 1)
 ltb_more a i n = ⊎_elim (λ (h : a < i). lt-ltb a i h ∙ sym (lt-ltb a (i + 1) (omega arith))) (λ (h : i ≤ a). le-ltb a i h ∙ sym (le-ltb a (i + 1) (omega arith))) (lt_or_le a i)
 
--- the digits of a test: no place yet
-pub digits_none : (t : ℕ → Bool) (a : ℕ) → has 0 a ≡ (ltb a 0 && t a)
-digits_none t a = has_zero a ∙ sym (ap (λ (b : Bool). b && t a) (le-ltb a 0 (omega arith)))
+-- the places that pass a test: none yet
+pub places_none : (t : ℕ → Bool) (a : ℕ) → has 0 a ≡ (ltb a 0 && t a)
+places_none t a = has_zero a ∙ sym (ap (λ (b : Bool). b && t a) (le-ltb a 0 (omega arith)))
 
--- the place i
-pub digits_more : (m : ℕ) (t : ℕ → Bool) (set i d : ℕ) → i < m → (d ≡ 0) ⊎ (d ≡ 1) → eqb d 1 ≡ t i → ((a : ℕ) → has set a ≡ (ltb a i && t a)) →
-    (a : ℕ) → has (bit_or set ((d * 2 ^ i) % 2 ^ m)) a ≡ (ltb a (i + 1) && t a)
-digits_more m t set i d l b e h a =
-    has_or set ((d * 2 ^ i) % 2 ^ m) a
-    ∙ ap₂ ◌||◌ (h a) (has_digit m d i a l b ∙ ap (λ (v : Bool). eqb a i && v) e)
+-- the place i, where the test holds
+pub places_more : (m : ℕ) (t : ℕ → Bool) (set i : ℕ) → i < m → t i ≡ true → ((a : ℕ) → has set a ≡ (ltb a i && t a)) →
+    (a : ℕ) → has (bit_or set ((1 * 2 ^ i) % 2 ^ m)) a ≡ (ltb a (i + 1) && t a)
+places_more m t set i l e h a =
+    has_or set ((1 * 2 ^ i) % 2 ^ m) a
+    ∙ ap₂ ◌||◌ (h a) (ap (λ (x : ℕ). has x a) (one_shl m i l) ∙ has_pow i a)
     ∙ ⊎_elim
     (λ (y : eqb a i ≡ true). let q : a ≡ i = eqb-true a i y in
-    rw (le-ltb a i (omega arith), lt-ltb a (i + 1) (omega arith), y) (ap t (sym q)))
+    rw (le-ltb a i (omega arith), lt-ltb a (i + 1) (omega arith), y) (sym (ap t q ∙ e)))
     (λ (y : eqb a i ≡ false). let q = eqb-false a i y in rw y (or_off (ltb a i && t a) ∙ ap (λ (v : Bool). v && t a) (ltb_more a i q)))
     (bool_cases (eqb a i))
 
 -- the place i, where the test fails
-pub digits_skip : (t : ℕ → Bool) (set i : ℕ) → t i ≡ false → ((a : ℕ) → has set a ≡ (ltb a i && t a)) → (a : ℕ) → has set a ≡ (ltb a (i + 1) && t a)
-digits_skip t set i e h a =
+pub places_skip : (t : ℕ → Bool) (set i : ℕ) → t i ≡ false → ((a : ℕ) → has set a ≡ (ltb a i && t a)) → (a : ℕ) → has set a ≡ (ltb a (i + 1) && t a)
+places_skip t set i e h a =
     h a
     ∙ ⊎_elim
     (λ (y : eqb a i ≡ true). let off : t a ≡ false = ap t (eqb-true a i y) ∙ e in ap (λ (v : Bool). ltb a i && v) off ∙ and_off (ltb a i) ∙ sym (ap (λ (v : Bool). ltb a (i + 1) && v) off ∙ and_off (ltb a (i + 1))))

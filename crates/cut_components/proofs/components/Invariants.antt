@@ -15,7 +15,4 @@ abbrev pub related : Bond → List ℕ → List ℕ → mining.Rel
 related bond rows cols a b = bonded bond (edge_of rows a b) (edge_of cols a b)
 
 abbrev pub invariant-loop-c : goal.invariant-loop-c
-invariant-loop-c l = (l.c ≤ code_count) × (l.parts.n + l.c ≤ code_count) × (lists_of l.parts ≡ mining.components (related l.bond l.rows l.cols) (keep (has l.within.bits) (from l.c (code_count - l.c))))
-
-abbrev pub decreases-loop-c : goal.decreases-loop-c
-decreases-loop-c l = l.c
+invariant-loop-c l = (l.parts.n + l.c ≤ code_count) × (lists_of l.parts ≡ mining.components (related l.bond l.rows l.cols) (keep (has l.within.bits) (from l.c (code_count - l.c))))

@@ -1,4 +1,4 @@
-use Prim.Native.Nat.{ℕ, ◌-◌, ◌≤◌}
+use Prim.Native.Nat.{ℕ}
 use mathlib.Core.Path.{◌≡◌}
 use mathlib.Core.Bool.{not, ◌&&◌}
 use lib.Dec.{ltb}
@@ -8,7 +8,4 @@ use Rattle.cut_parts.specs.Sets.{meets}
 use Rattle.cut_pairs.proofs.places_with.Given as goal
 
 abbrev pub invariant-loop-k : goal.invariant-loop-k
-invariant-loop-k l = (l.k ≤ l.n) × ((a : ℕ) → has l.places a ≡ (ltb a l.k && (meets l.codes (get_or l.sets a 0) && not (meets l.others (get_or l.sets a 0)))))
-
-abbrev pub decreases-loop-k : goal.decreases-loop-k
-decreases-loop-k l = l.n - l.k
+invariant-loop-k l = (a : ℕ) → has l.places a ≡ (ltb a l.k && (meets l.codes (get_or l.part-items a 0) && not (meets l.others (get_or l.part-items a 0))))

@@ -1,4 +1,4 @@
-use Prim.Native.Nat.{ℕ, ◌-◌, ◌≤◌}
+use Prim.Native.Nat.{ℕ}
 use mathlib.Core.Path.{◌≡◌}
 use mathlib.Core.Bool.{not, ◌&&◌}
 use lib.Dec.{ltb}
@@ -9,7 +9,4 @@ use Rattle.cut_redos.specs.Facing.{faces}
 use Rattle.cut_redos.proofs.unfit_codes.Given as goal
 
 abbrev pub invariant-loop-c : goal.invariant-loop-c
-invariant-loop-c l = (l.c ≤ code_count) × ((x : ℕ) → has l.set x ≡ (ltb x l.c && not (faces (edge_of l.rows x) (has l.starts) (listed code_count l.border) && faces (edge_of l.cols x) (has l.ends) (listed code_count l.border))))
-
-abbrev pub decreases-loop-c : goal.decreases-loop-c
-decreases-loop-c l = code_count - l.c
+invariant-loop-c l = (x : ℕ) → has l.set x ≡ (ltb x l.c && not (faces (edge_of l.g.rows x) (has l.starts) (listed code_count l.border) && faces (edge_of l.cols x) (has l.ends) (listed code_count l.border)))
