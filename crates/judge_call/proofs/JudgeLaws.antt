@@ -10,8 +10,6 @@ use Rattle.rules.specs.Heartbeats.{without_heartbeats}
 use Rattle.rules.specs.Trees.{Tree, size, In}
 use Rattle.rules.specs.TreeBlock.{size_at, tree_block}
 use Rattle.rules.specs.Calls.{after, cleared, judging, VerdictOf, JudgeSays}
-use Rattle.rules.specs.declared.Answer.{Answer}
-use Rattle.rules.specs.declared.Answer.TheVariants.{Gives, Refused}
 use Rattle.rules.specs.declared.Verdict.{Verdict}
 use Rattle.rules.specs.declared.Verdict.TheVariants.{Fits, Misfit}
 use Rattle.rules.proofs.FormedLaws.{FormedTree, formed_tree, formed_one}
@@ -20,23 +18,15 @@ use Rattle.judge_rows.specs.Rows.{Says}
 use Rattle.judge_subtrees.specs.Entries.{Subtree}
 use Rattle.judge_fits.specs.Fits.{Nodes}
 use Rattle.judge_fits.specs.Fits.{FitSays}
-use Rattle.judge_call.specs.Verdicts.{dismissed}
 use Rattle.judge_subtrees.proofs.EntryLaws.{holds_size, size_some, every_entry}
 use Rattle.judge_call.proofs.AcceptLaws.{Accepted, judging_given}
+use Rattle.std.specs.Prelude.{Ok}
+use Rattle.rules.specs.Refusals.{Answer}
 
-module _ (b e work : List ℕ) (a : Answer) (call : a ≡ judging b e work) where
-  -- a refusal is handed on, and writes nothing
-  pub judge_refused : (number place : ℕ) (v : Verdict) → a ≡ Refused number place → v ≡ dismissed a → JudgeSays b e work v work
-  judge_refused number place v h said =
-      let q : judging b e work ≡ Refused number place = sym call ∙ h in
-      record {
-        verdict = subst (λ (x : Answer). VerdictOf x b e v) (sym q) (said ∙ ap dismissed h);
-        memory = sym (ap (λ (x : Answer). after x (cleared 8128 work) work) q);
-      }
-
-  module _ (m : ℕ) (h : a ≡ Gives m) where
+module _ (b e work : List ℕ) where
+  module _ (m : ℕ) (call : Ok m ≡ judging b e work) where
     given : Accepted b e work
-    given = judging_given b e work m (sym call ∙ h)
+    given = judging_given b e work m (sym call)
 
     pub judge_long : length b ≡ 512
     judge_long = given.long
@@ -70,16 +60,14 @@ module _ (b e work : List ℕ) (a : Answer) (call : a ≡ judging b e work) wher
           says t f.held (sym (len ∙ holds_size t b 0 f.held)) f.well_formed
 
       module _ (r : Bool) (work' : List ℕ) (says : FitSays b n (without_heartbeats e) r) (wiped : work' ≡ cleared 8128 work) where
-        given_says : (v : Verdict) → VerdictOf (Gives m) b e v → JudgeSays b e work v work'
-        given_says v s =
-            let q : judging b e work ≡ Gives m = sym call ∙ h in
-            record {
-              verdict = subst (λ (x : Answer). VerdictOf x b e v) (sym q) s;
-              memory = wiped ∙ sym (ap (λ (x : Answer). after x (cleared 8128 work) work) q);
-            }
+        given_says : (v : Verdict) → VerdictOf (Ok m) b e (Ok v) → JudgeSays b e work (Ok v) work'
+        given_says v s = record {
+          verdict = subst (λ (x : Answer). VerdictOf x b e (Ok v)) call s;
+          memory = wiped ∙ ap (λ (x : Answer). after x (cleared 8128 work) work) call;
+        }
 
-        pub judge_fits : r ≡ true → JudgeSays b e work Fits work'
+        pub judge_fits : r ≡ true → JudgeSays b e work (Ok Fits) work'
         judge_fits y = given_says Fits (λ t block. (tree_says r says t block).0 y)
 
-        pub judge_misfit : r ≡ false → JudgeSays b e work Misfit work'
+        pub judge_misfit : r ≡ false → JudgeSays b e work (Ok Misfit) work'
         judge_misfit y = given_says Misfit (λ t block i. false≢true (sym y ∙ (tree_says r says t block).1 i))

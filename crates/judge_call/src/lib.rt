@@ -5,49 +5,33 @@ ghost use Rattle.std.specs.Prelude.{◌≡◌, List, ℕ, ◌≤◌, length};
 ghost use Rattle.rules.specs.Heartbeats.{without_heartbeats};
 ghost use Rattle.rules.specs.Calls.{cleared, judging, JudgeSays};
 ghost use Rattle.judge_fits.specs.Fits.{Nodes, FitSays};
-ghost use Rattle.judge_call.specs.Verdicts.{dismissed};
 
-use rules::{Answer, EVENT_COUNT, JUDGE_WORK, TREE_SIZE, Verdict};
+use rules::{Answer, EVENT_COUNT, JUDGE_WORK, Reason, Refusal, TREE_SIZE, Verdict};
 
-// A refusal as judging gives it.
-fn dismiss(answer: Answer) -> Verdict
-    ensures { result ≡ dismissed answer }
-{
-    match answer {
-        Answer::Gives(_) => Verdict::Misfit,
-        Answer::Refused { number, place } => Verdict::Refused {
-            number: number,
-            place: place,
-        },
-    }
-}
-
-// The refusals in their order: 8 for the length, 3, 8 for the check, 9, 10, 11. `room` is the number of work numbers.
+// The refusals in their order: TreeBlock for the length, WorkLength, TreeBlock for the check, BadTree, EpisodeLength, EpisodeCode. `room` is the number of work numbers.
+#[tactic(auto, unfolding(rules::specs::Calls::judging))]
 fn accept(tree: &[u8], episode: &[u8], room: usize) -> Answer
     ensures { (work : List ℕ) → length work ≡ room → result ≡ judging tree.now episode.now work }
 {
     if tree.len() != TREE_SIZE {
-        return Answer::Refused {
-            number: 8,
+        return Err(Refusal {
+            reason: Reason::TreeBlock,
             place: 0,
-        };
+        });
     }
     if room < JUDGE_WORK {
-        return Answer::Refused {
-            number: 3,
+        return Err(Refusal {
+            reason: Reason::WorkLength,
             place: 0,
-        };
+        });
     }
     if !block_seal::check_right(tree) {
-        return Answer::Refused {
-            number: 8,
+        return Err(Refusal {
+            reason: Reason::TreeBlock,
             place: 0,
-        };
+        });
     }
-    let formed = tree_check::formed(tree);
-    let Answer::Gives(_) = formed else {
-        return formed;
-    };
+    tree_check::formed(tree)?;
     log_events::lent_episode(episode, 1)
 }
 
@@ -62,16 +46,13 @@ fn fits(tree: &[u8], n: usize, episode: &[u8], work: &mut [u64]) -> bool
 }
 
 // Judging: whether the tree has the episode, its heartbeats left out.
-pub fn judge(tree: &[u8], episode: &[u8], work: &mut [u64]) -> Verdict
+pub fn judge(tree: &[u8], episode: &[u8], work: &mut [u64]) -> Result<Verdict, Refusal>
     ensures { JudgeSays tree.now episode.now work.old result work.new }
 {
-    let answer = accept(tree, episode, work.len());
-    let Answer::Gives(_) = answer else {
-        return dismiss(answer);
-    };
+    accept(tree, episode, work.len())?;
     let n = judge_subtrees::size_at(tree, 0);
     if fits(tree, n, episode, work) {
-        return Verdict::Fits;
+        return Ok(Verdict::Fits);
     }
-    Verdict::Misfit
+    Ok(Verdict::Misfit)
 }
