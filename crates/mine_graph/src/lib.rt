@@ -28,8 +28,7 @@ fn nothing_new(
     ensures { result ≡ true → (starts : CodeSet) → ((x : ℕ) → has first.bits x ≡ (has starts.bits x && has v.keep.bits x)) → with_pieces (sight v) (meant (graph_of rows.now starts ends) v.keep.bits) (codes_of w events.now ∷ []) ≡ meant (graph_of rows.now starts ends) v.keep.bits }
 {
     let keep = v.keep;
-    let breaks = v.breaks;
-    let watched = keep.union(breaks);
+    let watched = keep.union(v.breaks);
     let mut known = first;
     let mut open = CodeSet::none();
     for &c in events.iter().step_by(w) {
@@ -41,10 +40,7 @@ fn nothing_new(
                 known = row.meet(keep);
                 open = CodeSet::none().with_code(c);
             } else {
-                if keep.has_code(c) {
-                    return false;
-                }
-                if open.minus(ends).bits != 0 {
+                if keep.has_code(c) || !open.minus(ends).is_empty() {
                     return false;
                 }
                 known = first;
@@ -52,7 +48,7 @@ fn nothing_new(
             }
         }
     }
-    open.minus(ends).bits == 0
+    open.minus(ends).is_empty()
 }
 
 // The graph of a view's sublog.
@@ -60,22 +56,15 @@ pub fn graph_of(log: &[u8], places: &[u8], w: usize, v: View) -> Graph
     requires { Listed w log.now places.now }
     ensures { meant result v.keep.bits ≡ drawn (listed code_count v.keep.bits) (sublog v (episodes_of w log.now places.now)) }
 {
-    let g = Graph::new();
-    let mut rows = g.rows;
-    let mut starts = g.starts;
-    let mut ends = g.ends;
-    let keep = v.keep;
-    let mut first = starts.meet(keep);
+    let mut g = Graph::new();
+    let mut first = g.starts.meet(v.keep);
     for i in 0..places.len() / 2 {
         let at = mine_places::place_at(places, 2 * i);
         let events = mine_places::events_at(log, at, w);
-        if !nothing_new(events, w, v, &rows, first, ends) {
-            let h = mine_trails::graph_codes(events, w, v, Graph { rows, starts, ends });
-            rows = h.rows;
-            starts = h.starts;
-            ends = h.ends;
-            first = starts.meet(keep);
+        if !nothing_new(events, w, v, &g.rows, first, g.ends) {
+            g = mine_trails::graph_codes(events, w, v, g);
+            first = g.starts.meet(v.keep);
         }
     }
-    Graph { rows, starts, ends }
+    g
 }

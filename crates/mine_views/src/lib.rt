@@ -12,7 +12,7 @@ use code_sets::CodeSet;
 use rules::Operator;
 
 // The codes that are events of the sublog, those that end a sub-episode, and whether the empty episode is in it beside those.
-#[derive(Clone, Copy)]
+#[derive(Clone, Copy, Debug, PartialEq, Eq)]
 pub struct View {
     pub keep: CodeSet,
     pub breaks: CodeSet,
@@ -23,17 +23,11 @@ pub struct View {
 pub fn part_of(v: View, operator: Operator, part: CodeSet, bare: bool) -> View
     ensures { (l : Log) → bare ≡ (part_sight (op_of operator) (listed code_count part.bits) l (sight v)).bare → sight result ≡ part_sight (op_of operator) (listed code_count part.bits) l (sight v) }
 {
-    let keep = v.keep;
-    let breaks = v.breaks;
-    if let Operator::Loop = operator {
-        let others = keep.minus(part);
-        let more = breaks.union(others);
-        return View {
-            keep: part,
-            breaks: more,
-            bare,
-        };
-    }
+    let breaks = if operator == Operator::Loop {
+        v.breaks.union(v.keep.minus(part))
+    } else {
+        v.breaks
+    };
     View {
         keep: part,
         breaks,

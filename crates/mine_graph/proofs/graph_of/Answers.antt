@@ -1,16 +1,18 @@
-use mathlib.Core.Path.{refl, sym, ◌∙◌}
-use native.Mathlib.Omega.{arith}
+use mathlib.Core.Path.{◌≡◌, refl, sym, ◌∙◌}
+use mathlib.Core.List.{[], ◌∷◌}
 use borrow.Author.Rules.{rules}
-use Rattle.mine_places.specs.Places.{episodes_of}
+use Rattle.graph_rows.specs.Edges.{meant}
+use Rattle.mine_places.specs.Places.{codes_of, episodes_of}
 use Rattle.mine_places.proofs.PassLaws.{record_here, events_here, listed_next, pass_read, pass_end}
 use Rattle.mine_views.specs.Sublogs.{sight}
 use Rattle.mine_trails.specs.Growing.{with_pieces}
 use Rattle.mine_trails.proofs.TrailLaws.{drawn_from}
 use Rattle.mine_graph.proofs.PassLaws.{graph_nil, graph_append}
 use Rattle.mine_graph.proofs.graph_of.Goals as goal
+use Rattle.mine_graph.proofs.graph_of.Goals.{then-not-nothing_new, else-not-nothing_new}
 
 pub loop-i-init : goal.loop-i-init
-loop-i-init c = (search rules, refl, search rules, omega arith, c.meet-first.ensures)
+loop-i-init c = (search rules, refl, search rules, c.meet-first.ensures)
 
 pub events_at-events-requires : goal.events_at-events-requires
 events_at-events-requires c = (search rules, search record_here)
@@ -18,30 +20,24 @@ events_at-events-requires c = (search rules, search record_here)
 pub nothing_new-requires : goal.nothing_new-requires
 nothing_new-requires c = (c.loop-i.invariant.2, search events_here depth 9)
 
-pub graph_codes-h-requires : goal.graph_codes-h-requires
-graph_codes-h-requires c = search events_here depth 9
-
-pub loop-i-preserved-then-not-nothing_new : goal.loop-i-preserved-then-not-nothing_new
-loop-i-preserved-then-not-nothing_new c = let a = c.args in
-    let s = sight a.v in
-    let l = c.loop-i in
-    let some = c.loop-i-test.true in
-    let grown = c.graph_codes-h in (
-      listed_next a.w a.log.now a.places.now l.i l.invariant.0 some,
-      pass_read (with_pieces s) (graph_nil s) (graph_append s) a.w a.log.now a.places.now l.i _ _ l.invariant.1 some _ c.place_at-at.ensures _ c.events_at-events.ensures _ grown.ensures,
-      search rules,
-      omega arith,
-      c.meet-first-then-not-nothing_new.ensures,
-    )
+pub graph_codes-g-requires : goal.graph_codes-g-requires
+graph_codes-g-requires c = search events_here depth 9
 
 pub loop-i-preserved : goal.loop-i-preserved
-loop-i-preserved c = let s = sight c.args.v in
-    let l = c.loop-i in (
+loop-i-preserved c = let a = c.args in
+    let s = sight a.v in
+    let k = a.v.keep.bits in
+    let l = c.loop-i in
+    let r = c.if-not-nothing_new in
+    let added : meant r.g k ≡ with_pieces s (meant l.g k) (codes_of a.w c.events_at-events.result.now ∷ []) =
+    elim r.branch [
+      | then-not-nothing_new w ↦ rw w.g-is w.graph_codes-g.ensures
+      | else-not-nothing_new w ↦ rw w.g-is (sym (c.nothing_new.ensures w.if-not-nothing_new.false l.g.starts l.invariant.3))
+    ] in (
       search listed_next,
-      search (pass_read (with_pieces s) (graph_nil s) (graph_append s), sym (c.nothing_new.ensures c.if-not-nothing_new.false l.starts l.invariant.4)) depth 9,
-      l.invariant.2,
-      omega arith,
-      l.invariant.4,
+      pass_read (with_pieces s) (graph_nil s) (graph_append s) a.w a.log.now a.places.now l.i _ _ l.invariant.1 c.loop-i-test.true _ c.place_at-at.ensures _ c.events_at-events.ensures _ added,
+      elim r.branch [ then-not-nothing_new w ↦ rw w.g-is (search rules) | else-not-nothing_new w ↦ rw w.g-is l.invariant.2 ],
+      elim r.branch [ then-not-nothing_new w ↦ rw (w.first-is, w.g-is) w.meet-first-then-not-nothing_new.ensures | else-not-nothing_new w ↦ rw (w.first-is, w.g-is) l.invariant.3 ],
     )
 
 pub returns : goal.returns

@@ -1,6 +1,6 @@
 use mathlib.Core.Path.{◌≡◌}
 use mathlib.Core.Bool.{◌&&◌}
-use Prim.Native.Nat.{ℕ, ◌*◌, ◌-◌, ◌≤◌}
+use Prim.Native.Nat.{ℕ, ◌*◌}
 use lib.ListN.{length, drop}
 use Rattle.rules.specs.Words.{each}
 use Rattle.rules.specs.Calls.{code_count}
@@ -8,15 +8,11 @@ use Rattle.code_sets.specs.Bits.{has}
 use Rattle.graph_rows.specs.Edges.{meant}
 use Rattle.mine_places.specs.Places.{places_in, episode_of, episodes_of, All, Recorded}
 use Rattle.mine_views.specs.Sublogs.{sight}
-use Rattle.mine_trails.specs.Growing.{with_pieces, graph_of}
+use Rattle.mine_trails.specs.Growing.{with_pieces}
 use Rattle.mine_graph.proofs.graph_of.Given as goal
 
 abbrev pub invariant-loop-i : goal.invariant-loop-i
 invariant-loop-i l = All (Recorded l.w l.log) (places_in (drop (2 * l.i) l.places))
-    × (with_pieces (sight l.v) (meant (graph_of l.initial.rows l.initial.starts l.initial.ends) l.v.keep.bits) (episodes_of l.w l.log l.places) ≡ with_pieces (sight l.v) (meant (graph_of l.rows l.starts l.ends) l.v.keep.bits) (each (episode_of l.w l.log) (places_in (drop (2 * l.i) l.places))))
-    × (length l.rows ≡ code_count)
-    × (l.i ≤ length l.places)
-    × ((x : ℕ) → has l.first.bits x ≡ (has l.starts.bits x && has l.v.keep.bits x))
-
-abbrev pub decreases-loop-i : goal.decreases-loop-i
-decreases-loop-i l = length l.places - l.i
+    × (with_pieces (sight l.v) (meant l.initial.g l.v.keep.bits) (episodes_of l.w l.log l.places) ≡ with_pieces (sight l.v) (meant l.g l.v.keep.bits) (each (episode_of l.w l.log) (places_in (drop (2 * l.i) l.places))))
+    × (length l.g.rows ≡ code_count)
+    × ((x : ℕ) → has l.first.bits x ≡ (has l.g.starts.bits x && has l.v.keep.bits x))
