@@ -12,7 +12,7 @@ ghost use Rattle.judge_fits.specs.Fits.{Nodes, Placed, FitSays};
 use code_sets::CodeSet;
 use rules::JUDGE_WORK;
 
-// The rows of the node at entry v go to their place.
+// The rows of the node at entry v go to their place. Tree, episode and work stay parameters: a struct that two functions take would be longer.
 fn place_rows(tree: &[u8], v: usize, episode: &[u8], work: &mut [u64])
     requires { Node tree.now episode.now work.old v }
     ensures { Placed tree.now episode.now v work.old work.new }

@@ -34,7 +34,7 @@ impl<'a> Parent<'a> {
         judge_rows::rows_of(self.work, v, self.episode, self.codes.minus(own))
     }
 
-    // The rows of the children from `from` up to `end`, joined by the operator of their parent.
+    // The rows of the children from `from` up to `end`, joined by the operator of their parent. A loop by hand: a step is the child's own size.
     fn list_rows(&self, operator: Operator, from: usize, end: usize) -> [u64; PLACE_COUNT]
         requires { Subtrees self.now.tree.now from end × (end ≤ entry_count) × (from < end) }
         ensures { ListMeans self.now.tree.now self.now.episode.now self.now.work.now (op_of operator) (has self.now.codes.bits) from end (at result) }
