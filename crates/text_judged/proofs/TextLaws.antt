@@ -2,10 +2,9 @@
 use mathlib.Core.Path.{◌≡◌, refl, sym, ap, subst, ◌∙◌}
 use mathlib.Core.List.{List, [], ◌∷◌}
 use mathlib.Core.Bool.{Bool, true, false, false≢true}
-use Prim.Native.Nat.{ℕ, zero, suc, ◌+◌, ◌-◌, ◌≤◌, ◌<◌}
+use Prim.Native.Nat.{ℕ, zero, suc, ◌+◌, ◌≤◌, ◌<◌}
 use native.Mathlib.Omega.{arith}
-use lib.ListN.{length, get_or, take, drop, length-drop}
-use lib.Seq.{take_all}
+use lib.ListN.{length, get_or, take, drop}
 use lib.Dec.{ltb, eqb}
 use borrow.Author.Tests.{ltb-false}
 use Rattle.rules.specs.Words.{pick}
@@ -17,11 +16,10 @@ use Rattle.rules.specs.LogBlock.{log_sized, log_episodes}
 use Rattle.rules.specs.Calls.{log_sound, log_reading, checking}
 use Rattle.rules.specs.Listing.{refusal_line, verdict_lines}
 use Rattle.rules.specs.Printed.{judge_reading, Tells, Told, VerdictsOf, JudgedBy, JudgedText}
-use Rattle.rules.proofs.AnswerLaws.{is_given, demand_given, then_given, then_refused, then_gives}
+use Rattle.rules.proofs.AnswerLaws.{is_given, demand_given, then_given}
 use Rattle.rules.proofs.Overlay.{take_overlaid, drop_overlaid}
 use Rattle.tree_check.proofs.Accepted.{accepted_tree}
 use Rattle.text_writing.specs.Writing.{Wrote}
-use Rattle.text_writing.proofs.WroteLaws.{wrote_nothing, wrote_most}
 use Rattle.text_verdicts.specs.Lines.{LogLines}
 use Rattle.text_judged.specs.Texts.{JudgedInto}
 use Rattle.std.specs.Prelude.{Ok, Err}

@@ -7,7 +7,7 @@ use native.Mathlib.Nat.{mul-one}
 use native.Mathlib.Omega.{arith}
 use lib.ListN.{length, get_or}
 use lib.Dec.{eqb}
-use borrow.Author.Tests.{eqb-true}
+use borrow.Author.Tests.{eqb-true, eq-eqb, le-leb}
 use Rattle.rules.specs.Refusals.{Given}
 use Rattle.rules.specs.LogBlock.{check_right, first_above, events_at, frame_at, records_at}
 use Rattle.rules.specs.Calls.{top_code, lent, formed, checking, judging}
@@ -15,7 +15,6 @@ use Rattle.rules.proofs.AnswerLaws.{given_is, demand_given}
 use Rattle.log_records.proofs.RecordLaws.{frame_given, frame_events, record_given}
 use Rattle.log_events.proofs.LentLaws.{lent_here}
 use Rattle.log_episodes.proofs.EpisodeLaws.{met_record}
-use Rattle.judge_call.proofs.AcceptLaws.{accept_lent}
 use Rattle.std.specs.Prelude.{Ok}
 use Rattle.rules.specs.declared.Reason.TheVariants.{TreeBlock}
 
@@ -38,9 +37,10 @@ checked b g =
 
 -- judging by a checked tree refuses no episode that may be lent
 pub judging_given : (b e work : List ℕ) → Given (checking b) → Given (lent 1 e) → 8128 ≤ length work → Given (judging b e work)
+unfolding judging
 judging_given b e work g l room =
     let k = checked b g in
-    subst Given (accept_lent b e work k.long room k.right (formed b) (lent 1 e) k.nodes refl k.formed refl) l
+    simp (eq-eqb (length b) 512 k.long, le-leb 8128 (length work) room, k.right, k.formed) l
 
 -- ---- the record that a walk over a sound block meets: its events may be lent
 

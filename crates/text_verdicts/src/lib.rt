@@ -64,7 +64,14 @@ pub fn log_lines(tree: &[u8], log: &[u8], work: &mut [u64], text: &mut [u8]) -> 
     let mut next: usize = 0;
     for k in 0..log.len() / BLOCK_SIZE {
         let base = k * BLOCK_SIZE;
-        next = block_lines(tree, &log[base..base + BLOCK_SIZE], number, work, text, next);
+        next = block_lines(
+            tree,
+            &log[base..base + BLOCK_SIZE],
+            number,
+            work,
+            text,
+            next,
+        );
         number += usize::from(log[base]);
     }
     next
