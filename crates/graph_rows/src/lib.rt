@@ -45,7 +45,7 @@ impl Graph {
         self
     }
 
-    // One more last code.
+    // One more last code. A function of its own: one for both would be told by a flag which set grows.
     pub fn ended(mut self, a: u8) -> Self
         ensures { Ended self a result }
     {
