@@ -19,5 +19,6 @@ pub fn choice_parts(g: Graph, cols: [Bits; CODE_COUNT], keep: CodeSet) -> Parts
     requires { Back g.rows cols }
     ensures { (result.n ≤ code_count) × (lists_of result ≡ choice_parts (meant g keep.bits)) }
 {
-    cut_components::components(g.rows, cols, Bond::Either, keep)
+    let rows = g.rows;
+    cut_components::components(rows, cols, Bond::Either, keep)
 }

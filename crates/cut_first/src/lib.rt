@@ -21,6 +21,7 @@ fn cut_without_loop(g: Graph, cols: [Bits; CODE_COUNT], keep: CodeSet) -> Option
     requires { Back g.rows cols }
     ensures { WithoutLoop g keep.bits result }
 {
+    let rows = g.rows;
     let choice = cut_choice::choice_parts(g, cols, keep);
     if 2 <= choice.n {
         return Some(Cut {
@@ -28,7 +29,7 @@ fn cut_without_loop(g: Graph, cols: [Bits; CODE_COUNT], keep: CodeSet) -> Option
             parts: choice,
         });
     }
-    let sequence = cut_sequence::sequence_parts(g.rows, keep);
+    let sequence = cut_sequence::sequence_parts(rows, keep);
     if 2 <= sequence.n {
         return Some(Cut {
             operator: Operator::Sequence,
@@ -49,7 +50,8 @@ fn cut_without_loop(g: Graph, cols: [Bits; CODE_COUNT], keep: CodeSet) -> Option
 pub fn cut_of(g: Graph, keep: CodeSet) -> Option<Cut>
     ensures { CutOf g keep.bits result }
 {
-    let cols = graph_reverse::transpose(g.rows);
+    let rows = g.rows;
+    let cols = graph_reverse::transpose(rows);
     if 2 <= keep.count() {
         let cut = cut_without_loop(g, cols, keep);
         if cut.is_some() {

@@ -22,7 +22,8 @@ pub fn loop_parts(g: Graph, cols: [Bits; CODE_COUNT], keep: CodeSet) -> Parts
     let border = keep.meet(g.starts.union(g.ends));
     let rest = keep.minus(border);
     let unfit = cut_redos::unfit_codes(g, cols, border.bits);
-    let mut redos = cut_components::components(g.rows, cols, Bond::Either, rest);
+    let rows = g.rows;
+    let mut redos = cut_components::components(rows, cols, Bond::Either, rest);
     redos.retain(|part| part & unfit == 0);
     if redos.n < CODE_COUNT {
         return cut_parts::inserted(redos, 0, cut_parts::remaining(redos, keep.bits));

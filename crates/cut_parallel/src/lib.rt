@@ -44,7 +44,8 @@ pub fn parallel_parts(g: Graph, cols: [Bits; CODE_COUNT], keep: CodeSet) -> Part
     requires { Back g.rows cols }
     ensures { (result.n ≤ code_count) × (lists_of result ≡ parallel_parts (meant g keep.bits)) }
 {
-    let components = cut_components::components(g.rows, cols, Bond::NotBoth, keep);
+    let rows = g.rows;
+    let components = cut_components::components(rows, cols, Bond::NotBoth, keep);
     let made = made_parts(components, g.starts.bits, g.ends.bits);
     with_rest(made, keep.bits)
 }
