@@ -13,7 +13,7 @@ use Rattle.rules.specs.Words.{keep, from}
 use Rattle.rules.proofs.ListLaws.{from_has, keep_ext, keep_none, keep_append}
 use Rattle.rules.proofs.FilterLaws.{from_append}
 use Rattle.code_sets.specs.Bits.{has, listed}
-use Rattle.cut_pairs.specs.Pairs.{places_of, pair_at, pair_all}
+use Rattle.cut_pairs.specs.Pairs.{places_of, pair_all}
 
 append_none : {A : Type 0} (xs ys : List A) → ys ≡ [] → xs ++ ys ≡ xs
 append_none [] ys e = e
@@ -30,10 +30,6 @@ places_are m r f sets low h =
     ∙ append_none (keep (has r) (from 0 n)) (keep (has r) (from (0 + n) (m - n)))
     (keep_none (has r) (from (0 + n) (m - n)) (λ a i. let l = from_has (m - n) (0 + n) a i in h a ∙ ap (λ (b : Bool). b && f (get_or sets a 0)) (le-ltb a n (omega arith))))
     ∙ keep_ext (has r) (λ i. f (get_or sets i 0)) (from 0 n) (λ a i. let l = from_has n 0 a i in h a ∙ ap (λ (b : Bool). b && f (get_or sets a 0)) (lt-ltb a n (omega arith)))
-
--- a pair, and then those of the rest
-pub pairs_more : (is js is' js' : List ℕ) (i j : ℕ) (sets sets' : List ℕ) → is ≡ i ∷ is' → js ≡ j ∷ js' → sets' ≡ pair_at 0 bit_or i j sets → pair_all 0 bit_or is js sets ≡ pair_all 0 bit_or is' js' sets'
-pairs_more is js is' js' i j sets sets' e f o = rw (e, f, o) refl
 
 -- no place of ours, or none of theirs
 pub pairs_end : (is js : List ℕ) (sets : List ℕ) → (is ≡ []) ⊎ (js ≡ []) → pair_all 0 bit_or is js sets ≡ sets

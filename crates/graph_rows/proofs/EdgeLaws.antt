@@ -3,11 +3,11 @@ use mathlib.Core.Path.{◌≡◌, refl, sym, ap, ◌∙◌}
 use mathlib.Core.Logic.{⊎_elim}
 use mathlib.Core.List.{List}
 use mathlib.Core.Bool.{Bool, true, false, ◌||◌, ◌&&◌}
-use Prim.Native.Nat.{ℕ, zero, suc, ◌<◌, ◌≤◌}
+use Prim.Native.Nat.{ℕ, zero, suc, ◌<◌}
 use lib.Dec.{eqb, ltb}
 use lib.ListN.{length, get_or, set, replicate}
 use lib.Seq.{get_or-set_same, get_or-set_other}
-use borrow.Author.Tests.{eqb-true, eqb-false, lt-ltb, le-ltb}
+use borrow.Author.Tests.{eqb-true, eqb-false, lt-ltb}
 use Rattle.code_sets.specs.Bits.{has}
 use Rattle.code_sets.proofs.BitLaws.{has_zero}
 use Rattle.rules.proofs.BoolLaws.{bool_cases, or_off}
@@ -44,10 +44,6 @@ edge_more m rows a b v l s h i j =
     and_on : (t : Bool) → t ≡ (t && true)
     and_on true = refl
     and_on false = refl
-
--- a code that is none adds no pair
-pub edge_same : (m : ℕ) (rows : List ℕ) (a b : ℕ) → m ≤ a → (i j : ℕ) → edge_of rows i j ≡ (edge_of rows i j || (ltb a m && ltb b m && eqb i a && eqb j b))
-edge_same m rows a b l i j = rw (le-ltb a m l) (sym (or_off (edge_of rows i j)))
 
 -- rows of no codes have no edge
 zero_at_lem : (n i : ℕ) → ◌≡◌ {A = ℕ} (get_or (replicate n 0) i 0) 0

@@ -75,9 +75,6 @@ pub record Filled (Q : ℕ → ℕ → Type 0) (a₀ : List ℕ) (i : ℕ) (a : 
   pub below : (j : ℕ) → j < i → Q j (get_or a j 0)
   pub above : (j : ℕ) → i ≤ j → get_or a j 0 ≡ get_or a₀ j 0
 
-pub fill_none : (Q : ℕ → ℕ → Type 0) (a : List ℕ) → Filled Q a 0 a
-fill_none Q a = record { size = refl; below = λ j h. absurd (omega arith); above = λ j h. refl }
-
 pub fill_more : (Q : ℕ → ℕ → Type 0) (a₀ a : List ℕ) (i v : ℕ) → i < length a₀ → Filled Q a₀ i a → Q i v → Filled Q a₀ (i + 1) (set a i v)
 fill_more Q a₀ a i v l d q =
     record {

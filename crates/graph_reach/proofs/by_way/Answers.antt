@@ -4,12 +4,9 @@ use mathlib.Core.Path.{ap, ◌∙◌}
 use mathlib.Core.Bool.{◌||◌, ◌&&◌}
 use Rattle.code_sets.specs.Bits.{has}
 use Rattle.graph_rows.specs.Edges.{edge_of}
-use Rattle.graph_rows.proofs.TableLaws.{owned, edge_past, fill_none, fill_more, filled_edge}
+use Rattle.graph_rows.proofs.TableLaws.{owned, edge_past, fill_more, filled_edge}
 use Rattle.graph_reach.proofs.by_way.Invariants.{by_way}
 use Rattle.graph_reach.proofs.by_way.Goals as goal
-
-pub loop-row-init : goal.loop-row-init
-loop-row-init c = fill_none _ _
 
 pub loop-row-preserved : goal.loop-row-preserved
 unfolding edge_of

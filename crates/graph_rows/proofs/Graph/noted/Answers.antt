@@ -1,7 +1,7 @@
 use mathlib.Core.Path.{refl}
 use native.Mathlib.Omega.{arith}
 use Rattle.rules.specs.Calls.{code_count}
-use Rattle.graph_rows.proofs.EdgeLaws.{edge_more, edge_same}
+use Rattle.graph_rows.proofs.EdgeLaws.{edge_more}
 use Rattle.graph_rows.proofs.Graph.noted.Goals as goal
 
 pub returns-then-a-lt-NO_CODE : goal.returns-then-a-lt-NO_CODE
@@ -11,7 +11,3 @@ returns-then-a-lt-NO_CODE c = let a = c.args in
       starts = refl;
       ends = refl;
     }
-
-pub returns-else-a-lt-NO_CODE : goal.returns-else-a-lt-NO_CODE
-returns-else-a-lt-NO_CODE c = let a = c.args in
-    record { edges = edge_same code_count a.self.rows a.a a.b (omega arith); starts = refl; ends = refl }
