@@ -5,7 +5,7 @@ use mathlib.Core.Bool.{Bool, true, false, not, ◌&&◌, beq}
 use Prim.Native.Nat.{ℕ, zero, suc, ◌+◌, ◌-◌, ◌^◌, ◌≤◌, ◌<◌}
 use native.Mathlib.Omega.{arith}
 use native.Mathlib.Numerals.{add-one}
-use lib.ListN.{length, take, drop, get_or, set, length-set, length-take, drop_of_length-le}
+use lib.ListN.{length, take, drop, get_or, set, length-set}
 use lib.Seq.{take-suc-set}
 use lib.Bits.{bit_and, bit_or, bit_xor, and_lt, xor_lt}
 use Rattle.rules.specs.Calls.{code_count}
@@ -33,15 +33,6 @@ pub record Sweep (row : ℕ) (all sets : List ℕ) (i whole : ℕ) (kept : List 
   pub first : 1 ≤ m
   pub size : length kept ≡ code_count
   pub same : all ≡ join_on row whole (drop 1 (take m kept)) (drop i sets)
-
-pub sweep_none : (row whole : ℕ) (sets kept : List ℕ) → length kept ≡ code_count → Sweep row (join_on row whole [] sets) sets 0 whole kept 1
-sweep_none row whole sets kept z =
-    record {
-      few = omega arith;
-      first = omega arith;
-      size = z;
-      same = ap (λ (xs : List ℕ). join_on row whole xs sets) (sym (drop_of_length-le (take 1 kept) {i = 1} (omega (arith, length-take 1 kept))));
-    }
 
 module _ (row : ℕ) (all sets : List ℕ) (i whole : ℕ) (kept : List ℕ) (m : ℕ) (s : Sweep row all sets i whole kept m) where
   module _ (low : i < length sets) (room : length sets < code_count) where
