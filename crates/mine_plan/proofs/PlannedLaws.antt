@@ -6,14 +6,12 @@ use Prim.Native.Nat.{ℕ, ◌/◌, ◌%◌, ◌^◌, ◌≤◌, ◌<◌}
 use native.Mathlib.Nat.{pos_of_ne-zero}
 use native.Mathlib.Omega.{arith}
 use lib.Dec.{eqb}
-use lib.ListN.{length, take, get_or}
-use lib.Seq.{get_or-take, length-take-le}
+use Rattle.std.specs.Prelude.{Option, None, Some, IfSome}
+use lib.ListN.{length, take}
 use lib.Count.{count_trailing_zeros}
-use Rattle.rules.specs.declared.Operator.{Operator}
 use Rattle.rules.specs.Words.{pick, each, from}
 use Rattle.rules.specs.Mining as mining
 use Rattle.rules.specs.Mining.{Log, Rel, single, flower, graph, shape, head_of, cut_or, occurring}
-use Rattle.rules.specs.TreeBlock.{op_of}
 use Rattle.rules.specs.Calls.{code_count}
 use Rattle.rules.proofs.ListLaws.{Has, has_keep}
 use Rattle.rules.proofs.GraphLaws.{edge_in}
@@ -23,17 +21,15 @@ use Rattle.code_sets.proofs.LowestLaws.{lowest_is}
 use Rattle.graph_rows.specs.declared.Graph.{Graph}
 use Rattle.graph_rows.specs.Edges.{edge_of, meant}
 use Rattle.cut_parts.specs.Sets.{sets_of, lists_of}
-use Rattle.cut_first.specs.declared.Found.{Found}
-use Rattle.cut_first.specs.declared.Found.TheVariants.{Nothing, By}
 use Rattle.cut_first.specs.declared.Cut.{Cut}
-use Rattle.cut_first.specs.Cuts.{Inside, found_else, cut_shape, CutOf}
+use Rattle.cut_first.specs.Cuts.{Inside, cut_else, cut_shape, CutOf}
 use Rattle.mine_views.specs.declared.View.{View}
-use Rattle.mine_views.specs.Sublogs.{sight, sublog, Tight, part_sight, drawn}
+use Rattle.mine_views.specs.Sublogs.{sight, sublog, Tight, drawn}
 use Rattle.mine_views.proofs.TightLaws.{tight_graph}
-use Rattle.mine_plan.specs.Plans.{lone, base_shape, made_shape, Told, CutPlan, Planned}
+use Rattle.mine_plan.specs.Plans.{lone, base_shape, made_shape, CutPlan, Planned}
 use Rattle.mine_plan.specs.declared.Base.{Base}
 use Rattle.mine_plan.specs.declared.Base.TheVariants.{Silent, Leaf, Flower}
-use Rattle.mine_plan.specs.declared.Made.TheVariants.{Uncut, Cut as Cuts}
+use Rattle.mine_plan.specs.declared.Made.TheVariants.{Uncut}
 use Rattle.mine_plan.specs.declared.Plan.{Plan}
 use Rattle.mine_plan.proofs.PlanLaws.{plan_silent, plan_flower, plan_rest}
 
@@ -90,35 +86,27 @@ module _ (l : Log) (v : View) where
         let kept : (c : ℕ) → Has c (occurring code_count (sublog v l)) → has v.keep.bits c ≡ true = λ c i. (has_keep (has v.keep.bits) c (from 0 code_count) (subst (Has c) k.occurs i)).1 in
         (kept a q.0, kept b q.1)
 
-    module _ (off : t ≡ false) (r : Cut) (c : CutOf g v.keep.bits r) where
+    module _ (off : t ≡ false) (r : Option Cut) (c : CutOf g v.keep.bits r) where
       found : Tight code_count (sight v) l → shape code_count (sublog v l) ≡ cut_shape r codes_of
       found k = rest k ∙ ap (λ (b : Bool). pick b (single (head_of codes_of)) (cut_or (meant g v.keep.bits) (flower codes_of))) off ∙ sym (c.shape (inside k))
 
-      pub planned_none : r.found ≡ Nothing → (p : Plan) → (p.made ≡ Uncut Flower) × (p.n ≡ 0) → Planned l v p
+      pub planned_none : r ≡ None → (p : Plan) → (p.made ≡ Uncut Flower) × (p.n ≡ 0) → Planned l v p
       unfolding cut_shape
-      planned_none e p u = based p Flower u (λ k. found k ∙ ap (λ (f : Found). found_else f r.parts (flower codes_of)) e)
+      planned_none e p u = based p Flower u (λ k. found k ∙ ap (λ (o : Option Cut). cut_else o (flower codes_of)) e)
 
-      pub planned_cut : length r.parts.sets ≡ code_count → (o : Operator) → r.found ≡ By o → (p : Plan) → CutPlan l v o r.parts p → Planned l v p
+      pub planned_cut : (q : Cut) → r ≡ Some q → length q.parts.sets ≡ code_count → (p : Plan) → CutPlan l v q.operator q.parts p → Planned l v p
       unfolding cut_shape lists_of sets_of
-      planned_cut long o e p q =
-          let count = q.count in
+      planned_cut q e long p plan =
+          let few : q.parts.n ≤ code_count = subst (λ (o : Option Cut). IfSome o (λ c. c.parts.n ≤ code_count)) e c.few in
+          let count = plan.count in
           record {
-            few = omega (arith, c.few);
-            room = omega (arith, c.few, ap length q.same);
-            told = rw q.is q.told;
+            few = omega arith;
+            room = omega (arith, ap length plan.same);
+            told = rw plan.is plan.told;
             makes = λ k.
-                found k ∙ ap (λ (f : Found). found_else f r.parts (flower codes_of)) e
-                ∙ sym (λ i. made_shape (q.is i) codes_of (each (listed code_count) (take (count i) (q.same i))));
+                found k ∙ ap (λ (o : Option Cut). cut_else o (flower codes_of)) e
+                ∙ sym (λ i. made_shape (plan.is i) codes_of (each (listed code_count) (take (count i) (plan.same i))));
           }
-
--- a slice of the sets has the parts
-pub cut_told : (l : Log) (v : View) (o : Operator) (missed n : ℕ) (sets lent : List ℕ) → n ≤ length sets → (m : ℕ) → m ≡ n → lent ≡ take m sets →
-    ((k : ℕ) → k < length lent → has missed k ≡ (part_sight (op_of o) (listed code_count (get_or lent k 0)) l (sight v)).bare) →
-    Told l v (record { made = Cuts o; n = n; sets = sets; missed = missed }) (Cuts o)
-cut_told l v o missed n sets lent room m same e' h k lt =
-    let e : lent ≡ take n sets = e' ∙ ap (λ (q : ℕ). take q sets) same in
-    h k (omega (arith, ap length e, length-take-le n sets room))
-    ∙ ap (λ (x : ℕ). (part_sight (op_of o) (listed code_count x) l (sight v)).bare) (ap (λ (xs : List ℕ). get_or xs k 0) e ∙ get_or-take n sets k 0 lt)
 
 -- the bit of a part, as code asks for it
 pub missed_bit : (missed k : ℕ) (b : Bool) → has missed k ≡ b → eqb (missed / 2 ^ k % 2) 1 ≡ b

@@ -9,28 +9,27 @@ ghost use Rattle.mine_places.specs.Places.{episodes_of, Listed};
 ghost use Rattle.mine_plan.specs.Plans.{lone, CutPlan, Planned};
 
 use code_sets::{Bits, CodeSet};
-use cut_first::Found;
-use cut_parts::Parts;
+use cut_first::Cut;
 use graph_rows::Graph;
 use mine_views::View;
 use rules::{CODE_COUNT, Operator};
 
 // What has no cut.
-#[derive(Clone, Copy)]
+#[derive(Clone, Copy, Debug, PartialEq, Eq)]
 pub enum Base {
     Silent,
     Leaf,
     Flower,
 }
 
-#[derive(Clone, Copy)]
+#[derive(Clone, Copy, Debug, PartialEq, Eq)]
 pub enum Made {
     Uncut(Base),
     Cut(Operator),
 }
 
 // A cut's parts are the first n sets; `missed` has the numbers of those whose views have the empty episode.
-#[derive(Clone, Copy)]
+#[derive(Clone, Copy, Debug, PartialEq, Eq)]
 pub struct Plan {
     pub made: Made,
     pub n: u8,
@@ -42,13 +41,14 @@ pub struct Plan {
 fn alone(g: Graph, keep: CodeSet) -> bool
     ensures { result ≡ lone (edge_of g.rows) (listed code_count keep.bits) }
 {
-    if keep.count() == 1 {
-        let c = keep.first();
-        let i = c as usize;
-        let row = CodeSet { bits: g.rows[i] };
-        return !row.has(c);
+    if keep.count() != 1 {
+        return false;
     }
-    false
+    let c = keep.first();
+    let row = CodeSet {
+        bits: g.rows[c as usize],
+    };
+    !row.has(c)
 }
 
 // The plan of a sublog that has no cut.
@@ -64,19 +64,17 @@ fn uncut(base: Base) -> Plan
 }
 
 // A cut as a plan: the parts that a sub-episode lacks are looked for.
-fn cut_plan(log: &[u8], places: &[u8], w: usize, v: View, operator: Operator, parts: Parts) -> Plan
-    requires { Listed w log.now places.now × (parts.n ≤ code_count) }
-    ensures { CutPlan (episodes_of w log.now places.now) v operator parts result }
+fn cut_plan(log: &[u8], places: &[u8], w: usize, v: View, cut: Cut) -> Plan
+    requires { Listed w log.now places.now × (cut.parts.n ≤ code_count) }
+    ensures { CutPlan (episodes_of w log.now places.now) v cut.operator cut.parts result }
 {
-    let n = parts.n;
-    let sets = parts.sets;
-    let missed = mine_missed::missed_parts(log, places, w, v, operator, &sets[0..n]);
-    let count = n as u8;
+    let Cut { operator, parts } = cut;
+    let own = &parts.sets[..parts.n];
     Plan {
         made: Made::Cut(operator),
-        n: count,
-        sets,
-        missed,
+        n: parts.n as u8,
+        sets: parts.sets,
+        missed: mine_missed::missed_parts(log, places, w, v, operator, own),
     }
 }
 
@@ -85,9 +83,8 @@ pub fn planned(log: &[u8], places: &[u8], w: usize, v: View) -> Plan
     requires { Listed w log.now places.now }
     ensures { Planned (episodes_of w log.now places.now) v result }
 {
-    let keep = v.keep;
-    let bare = v.bare;
-    if keep.bits == 0 {
+    let View { keep, bare, .. } = v;
+    if keep.is_empty() {
         return uncut(Base::Silent);
     }
     if bare {
@@ -97,11 +94,8 @@ pub fn planned(log: &[u8], places: &[u8], w: usize, v: View) -> Plan
     if alone(g, keep) {
         return uncut(Base::Leaf);
     }
-    let cut = cut_first::cut_of(g, keep);
-    let found = cut.found;
-    let parts = cut.parts;
-    match found {
-        Found::Nothing => uncut(Base::Flower),
-        Found::By(operator) => cut_plan(log, places, w, v, operator, parts),
+    match cut_first::cut_of(g, keep) {
+        Some(cut) => cut_plan(log, places, w, v, cut),
+        None => uncut(Base::Flower),
     }
 }
