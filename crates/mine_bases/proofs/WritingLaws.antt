@@ -1,19 +1,15 @@
 -- Laws of what is written: one piece after another, and a piece before another.
-use mathlib.Core.Path.{◌≡◌, refl, sym, ◌∙◌, ap, subst}
+use mathlib.Core.Path.{◌≡◌, refl, sym, ◌∙◌, ap}
 use mathlib.Core.List.{List, [], ◌∷◌, ◌++◌, append_assoc, append-nil}
-use mathlib.Core.Bool.{Bool, true, false}
-use Prim.Native.Nat.{ℕ, suc, ◌+◌, ◌-◌, ◌*◌, ◌≤◌, ◌<◌}
+use Prim.Native.Nat.{ℕ, suc, ◌+◌, ◌*◌, ◌≤◌, ◌<◌}
 use native.Mathlib.Nat.{add-zero}
-use native.Mathlib.Numerals.{add-one}
 use native.Mathlib.Omega.{arith}
 use lib.ListN.{length, take, drop, length-append, length-drop, take-append-drop}
 use lib.Seq.{take_at, drop_at, drop-drop, take-take, take-append-le, length-take-le}
-use Rattle.rules.specs.Words.{push, keep, from}
 use Rattle.rules.specs.Trees.{sizes, children}
 use Rattle.rules.specs.Mining.{leaves, flower_of}
 use Rattle.rules.specs.TreeBlock.{entry, entries, entries_all}
-use Rattle.rules.specs.Calls.{code_count, entry_count}
-use Rattle.rules.proofs.Entries.{entries_all_length}
+use Rattle.rules.specs.Calls.{entry_count}
 use Rattle.tree_writing.specs.Writing.{with_entry}
 use Rattle.mine_bases.specs.Writing.{laid, Wrote, WroteTree, WroteAll}
 
@@ -64,9 +60,6 @@ laid_before at k xs ys b e h =
 pub put_wrote : (b : List ℕ) (at kind argument size : ℕ) (new : List ℕ) → new ≡ with_entry b at kind argument size → Wrote 1 (entry kind argument size) at b (at + 1) new
 put_wrote b at kind argument size new e = record { next = refl; block = e }
 
-pub nothing_wrote : (b : List ℕ) (at : ℕ) → Wrote 0 [] at b at b
-nothing_wrote b at = record { next = sym (add-zero at); block = sym (laid_nil (at * 4) b) }
-
 module _ {n : ℕ} {bytes : List ℕ} {at : ℕ} {old : List ℕ} {r : ℕ} {new : List ℕ} (w : Wrote n bytes at old r new) (sized : length bytes ≡ 4 * n) (room : at * 4 + 4 * n ≤ length old) where
   pub wrote_length : length new ≡ length old
   wrote_length = ap length w.block ∙ laid_length (at * 4) bytes old (omega arith)
@@ -79,32 +72,6 @@ module _ {n : ℕ} {bytes : List ℕ} {at : ℕ} {old : List ℕ} {r : ℕ} {new
 
 -- ---- the leaves of a set
 
--- the leaf of a code, where a test says that the set has it
-module _ (t q : Bool) (call : t ≡ q) (at c : ℕ) (b : List ℕ) where
-  pub leaf_fits : t ≡ true → at + length (push q c []) ≤ entry_count → at < entry_count
-  leaf_fits e h = let f : length (push q c []) ≡ 1 = ap (λ (x : Bool). length (push x c [])) (sym call ∙ e) in omega arith
-
-  pub leaf_put : t ≡ true → (new : List ℕ) → new ≡ with_entry b at 2 c 1 → WroteAll (leaves (push q c [])) at b (at + 1) new
-  unfolding entries entries_all
-  leaf_put e new f = subst (λ (x : Bool). WroteAll (leaves (push x c [])) at b (at + 1) new) (sym e ∙ call) (put_wrote b at 2 c 1 new f)
-
-  pub leaf_off : t ≡ false → WroteAll (leaves (push q c [])) at b at b
-  unfolding entries_all
-  leaf_off e = subst (λ (x : Bool). WroteAll (leaves (push x c [])) at b at b) (sym e ∙ call) (nothing_wrote b at)
-
-module _ (p : ℕ → Bool) where
-  -- those from the code c on
-  abbrev pub codes_from : ℕ → List ℕ
-  codes_from c = keep p (from c (code_count - c))
-
-  codes_next : (c : ℕ) → c < code_count → codes_from c ≡ push (p c) c (codes_from (c + 1))
-  codes_next c h =
-      let e : code_count - c ≡ suc (code_count - (c + 1)) = omega arith in
-      ap (λ (k : ℕ). keep p (from c k)) e ∙ ap (λ (k : ℕ). push (p c) c (keep p (from k (code_count - (c + 1))))) (sym (add-one c))
-
-  pub codes_none : (c : ℕ) → code_count ≤ c → codes_from c ≡ []
-  codes_none c h = let e : code_count - c ≡ 0 = omega arith in ap (λ (k : ℕ). keep p (from c k)) e
-
 pub leaves_sizes : (cs : List ℕ) → sizes (leaves cs) ≡ length cs
 leaves_sizes [] = refl
 leaves_sizes (c ∷ cs) = let h = leaves_sizes cs in omega arith
@@ -113,46 +80,38 @@ pub leaves_children : (cs : List ℕ) → children (leaves cs) ≡ length cs
 leaves_children [] = refl
 leaves_children (c ∷ cs) = ap suc (leaves_children cs)
 
-leaves_push : (b : Bool) (c : ℕ) (cs : List ℕ) → entries_all (leaves (push b c cs)) ≡ entries_all (leaves (push b c [])) ++ entries_all (leaves cs)
-unfolding entries_all
-leaves_push true c cs = refl
-leaves_push false c cs = refl
+leaves_first : (c : ℕ) (cs : List ℕ) → entries_all (leaves (c ∷ cs)) ≡ entry 2 c 1 ++ entries_all (leaves cs)
+unfolding entries entries_all
+leaves_first c cs = refl
 
-length_push : (b : Bool) (c : ℕ) (cs : List ℕ) → length (push b c cs) ≡ length (push b c []) + length cs
-length_push true c cs = omega arith
-length_push false c cs = omega arith
+-- a turn, where the leaves of some codes are left to be written
+module _ (all : List ℕ) (goal next : ℕ) (left tree : List ℕ) (inv : all ≡ laid (next * 4) (entries_all (leaves left)) tree) (count : goal ≡ next + length left) (long : length tree ≡ 512) (fits : goal ≤ entry_count) where
+  module _ (c : ℕ) (rest : List ℕ) (is : left ≡ c ∷ rest) where
+    pub leaf_room : next < entry_count
+    leaf_room = omega (arith, ap length is)
 
--- a turn at the code c
-module _ (p : ℕ → Bool) (all : List ℕ) (goal next c : ℕ) (tree : List ℕ) (inv : all ≡ laid (next * 4) (entries_all (leaves (codes_from p c))) tree)
-    (count : goal ≡ next + length (codes_from p c)) (long : length tree ≡ 512) (fits : goal ≤ entry_count) where
-  pub leaf_room : c < code_count → next + length (push (p c) c []) ≤ entry_count
-  leaf_room h = omega (arith, ap length (codes_next p c h), length_push (p c) c (codes_from p (c + 1)))
+    pub leaf_count : goal ≡ next + 1 + length rest
+    leaf_count = omega (arith, ap length is)
 
-  module _ (h : c < code_count) (r : ℕ) (new : List ℕ) (w : WroteAll (leaves (push (p c) c [])) next tree r new) where
-    sized : length (entries_all (leaves (push (p c) c []))) ≡ 4 * sizes (leaves (push (p c) c []))
-    sized = entries_all_length (leaves (push (p c) c []))
+    module _ (new : List ℕ) (put : new ≡ with_entry tree next 2 c 1) where
+      room : next * 4 + 4 * 1 ≤ length tree
+      room = let h = leaf_room in omega arith
 
-    room : next * 4 + 4 * sizes (leaves (push (p c) c [])) ≤ length tree
-    room = omega (arith, leaf_room h, leaves_sizes (push (p c) c []))
+      pub leaf_next : all ≡ laid ((next + 1) * 4) (entries_all (leaves rest)) new
+      leaf_next =
+          inv ∙ ap (λ (cs : List ℕ). laid (next * 4) (entries_all (leaves cs)) tree) is
+          ∙ ap (λ (xs : List ℕ). laid (next * 4) xs tree) (leaves_first c rest)
+          ∙ wrote_next (put_wrote tree next 2 c 1 new put) refl room (entries_all (leaves rest))
 
-    pub leaf_next : all ≡ laid (r * 4) (entries_all (leaves (codes_from p (c + 1)))) new
-    leaf_next =
-        inv ∙ ap (λ (cs : List ℕ). laid (next * 4) (entries_all (leaves cs)) tree) (codes_next p c h)
-        ∙ ap (λ (xs : List ℕ). laid (next * 4) xs tree) (leaves_push (p c) c (codes_from p (c + 1)))
-        ∙ wrote_next w sized room (entries_all (leaves (codes_from p (c + 1))))
+      pub leaf_long : length new ≡ 512
+      leaf_long = wrote_length (put_wrote tree next 2 c 1 new put) refl room ∙ long
 
-    pub leaf_count : goal ≡ r + length (codes_from p (c + 1))
-    leaf_count = omega (arith, ap length (codes_next p c h), length_push (p c) c (codes_from p (c + 1)), leaves_sizes (push (p c) c []), w.next)
-
-    pub leaf_long : length new ≡ 512
-    leaf_long = wrote_length w sized room ∙ long
-
-  pub leaves_end : code_count ≤ c → all ≡ tree
+  pub leaves_end : left ≡ [] → all ≡ tree
   unfolding entries_all
-  leaves_end h = inv ∙ ap (λ (cs : List ℕ). laid (next * 4) (entries_all (leaves cs)) tree) (codes_none p c h) ∙ laid_nil (next * 4) tree
+  leaves_end e = inv ∙ ap (λ (cs : List ℕ). laid (next * 4) (entries_all (leaves cs)) tree) e ∙ laid_nil (next * 4) tree
 
-  pub leaves_last : code_count ≤ c → next ≡ goal
-  leaves_last h = omega (arith, ap length (codes_none p c h))
+  pub leaves_last : left ≡ [] → next ≡ goal
+  leaves_last e = omega (arith, ap length e)
 
 -- ---- a flower: the loop's entry, silent, the leaves
 

@@ -1,18 +1,17 @@
 // Writing what has no cut into a tree's block: silent, a leaf, a flower.
 #![tactic(auto)]
 
-ghost use Rattle.std.specs.Prelude.{◌≡◌, [], ◌+◌, ◌≤◌, ◌<◌, length};
-ghost use Rattle.rules.specs.Words.{push};
+ghost use Rattle.std.specs.Prelude.{◌≡◌, ◌+◌, ◌≤◌, ◌<◌, length};
 ghost use Rattle.rules.specs.Trees.{size};
 ghost use Rattle.rules.specs.Mining.{leaves, flower_of};
 ghost use Rattle.rules.specs.Calls.{code_count, entry_count};
-ghost use Rattle.code_sets.specs.Bits.{has, listed};
+ghost use Rattle.code_sets.specs.Bits.{listed};
 ghost use Rattle.mine_plan.specs.Plans.{base_tree};
 ghost use Rattle.mine_bases.specs.Writing.{WroteTree, WroteAll};
 
 use code_sets::CodeSet;
 use mine_plan::Base;
-use rules::{ACTIVITY, LOOP, NO_CODE, SILENT};
+use rules::{ACTIVITY, LOOP, SILENT};
 
 // A number below 256 as a byte.
 pub fn byte(n: usize) -> u8
@@ -22,28 +21,15 @@ pub fn byte(n: usize) -> u8
     n as u8
 }
 
-// Writes the leaf of a code where the set has it.
-fn leaf_of(tree: &mut [u8], at: usize, set: CodeSet, c: u8) -> usize
-    requires { (length tree.old ≡ 512) × (at + length (push (has set.bits c) c []) ≤ entry_count) }
-    ensures { WroteAll (leaves (push (has set.bits c) c [])) at tree.old result tree.new }
-{
-    if set.has(c) {
-        tree_writing::put(tree, at, ACTIVITY, c, 1);
-        return at + 1;
-    }
-    at
-}
-
 // Writes a leaf for each code of a set, in ascending order.
 fn leaves(tree: &mut [u8], at: usize, set: CodeSet) -> usize
     requires { (length tree.old ≡ 512) × (at + length (listed code_count set.bits) ≤ entry_count) }
     ensures { WroteAll (leaves (listed code_count set.bits)) at tree.old result tree.new }
 {
     let mut next = at;
-    let mut c: u8 = 0;
-    while c < NO_CODE {
-        next = leaf_of(tree, next, set, c);
-        c += 1;
+    for c in set.codes() {
+        tree_writing::put(tree, next, ACTIVITY, c, 1);
+        next += 1;
     }
     next
 }
@@ -70,8 +56,7 @@ pub fn base(tree: &mut [u8], at: usize, base: Base, set: CodeSet) -> usize
             at + 1
         }
         Base::Leaf => {
-            let c = set.first();
-            tree_writing::put(tree, at, ACTIVITY, c, 1);
+            tree_writing::put(tree, at, ACTIVITY, set.first(), 1);
             at + 1
         }
         Base::Flower => flower(tree, at, set),

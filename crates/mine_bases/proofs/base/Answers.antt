@@ -9,27 +9,16 @@ use Rattle.mine_bases.proofs.WritingLaws.{put_wrote, leaves_sizes}
 use borrow.Author.Rules.{rules}
 use Rattle.mine_bases.proofs.base.Goals as goal
 
-pub put-requires : goal.put-requires
-put-requires c = let fits = rw c.in-Silent.is at c.requires.1 in
-    (search rules, omega arith)
-
 pub returns-in-Silent : goal.returns-in-Silent
 unfolding entries
 returns-in-Silent c = rw c.in-Silent.is (put_wrote _ _ 1 0 1 _ c.put.ensures)
-
-pub put-requires-in-Leaf : goal.put-requires-in-Leaf
-put-requires-in-Leaf c = let fits = rw c.in-Leaf.is at c.requires.1 in
-    (search rules, omega arith)
 
 pub returns-in-Leaf : goal.returns-in-Leaf
 unfolding entries
 returns-in-Leaf c = let a = c.args in
     rw c.in-Leaf.is
-    (put_wrote _ _ 2 _ 1 _ (c.put-in-Leaf.ensures ∙ ap (λ (x : ℕ). with_entry a.tree.now a.at 2 x 1) c.first-c.ensures.1))
+    (put_wrote _ _ 2 _ 1 _ (c.put-in-Leaf.ensures ∙ ap (λ (x : ℕ). with_entry a.tree.now a.at 2 x 1) c.first.ensures.1))
 
 pub flower-requires : goal.flower-requires
 flower-requires c = let fits = rw c.in-Flower.is at c.requires.1 in
     (search rules, omega (arith, leaves_sizes (listed code_count c.args.set.bits)))
-
-pub returns-in-Flower : goal.returns-in-Flower
-returns-in-Flower c = rw c.in-Flower.is c.flower.ensures

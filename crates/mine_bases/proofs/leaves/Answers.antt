@@ -1,38 +1,31 @@
-use mathlib.Core.Path.{refl, sym, ap, ◌∙◌}
+use mathlib.Core.Path.{◌≡◌, refl, sym, ap, ◌∙◌}
 use Prim.Native.Nat.{ℕ, ◌+◌}
-use native.Mathlib.Omega.{arith}
-use Rattle.rules.specs.Calls.{code_count}
-use Rattle.code_sets.specs.Bits.{has, listed}
-use Rattle.mine_bases.proofs.WritingLaws.{leaf_room, leaf_next, leaf_count, leaf_long, leaves_end, leaves_last, leaves_sizes}
 use borrow.Author.Rules.{rules}
+use Rattle.rules.specs.Calls.{code_count}
+use Rattle.code_sets.specs.Bits.{listed}
+use Rattle.mine_bases.proofs.WritingLaws.{leaf_room, leaf_next, leaf_count, leaf_long, leaves_end, leaves_last, leaves_sizes}
 use Rattle.mine_bases.proofs.leaves.Goals as goal
 
 pub loop-c-init : goal.loop-c-init
-loop-c-init c = (unfold listed in refl, unfold listed in refl, c.requires.0, omega arith)
+loop-c-init c = let e : c.into_iter-c-iterator.result.left ≡ c.args.set.bits = search rules in rw e (refl, refl, c.requires.0)
 
-pub leaf_of-next-requires : goal.leaf_of-next-requires
-leaf_of-next-requires c = let a = c.args in
-    let e = c.loop-c in
-    (e.invariant.2, leaf_room (has a.set.bits) _ _ e.next e.c e.tree e.invariant.0 e.invariant.1 e.invariant.2 c.requires.1 (search rules))
+pub put-requires : goal.put-requires
+put-requires c = let e = c.loop-c.invariant in
+    (search rules, leaf_room _ _ _ _ _ e.0 e.1 e.2 c.requires.1 _ _ c.in-Some.ensures.steps)
 
 pub loop-c-preserved : goal.loop-c-preserved
-loop-c-preserved c = let a = c.args in
-    let e = c.loop-c in
-    let w = c.leaf_of-next in
-    let lt = c.loop-c-test.true in
-    let room = c.requires.1 in (
-      leaf_next (has a.set.bits) _ _ e.next e.c e.tree e.invariant.0 e.invariant.1 e.invariant.2 room lt w.result w.new.tree w.ensures,
-      leaf_count (has a.set.bits) _ _ e.next e.c e.tree e.invariant.0 e.invariant.1 e.invariant.2 room lt w.result w.new.tree w.ensures,
-      leaf_long (has a.set.bits) _ _ e.next e.c e.tree e.invariant.0 e.invariant.1 e.invariant.2 room lt w.result w.new.tree w.ensures,
-      search rules,
+loop-c-preserved c = let e = c.loop-c.invariant in
+    let is = c.in-Some.ensures.steps in (
+      leaf_next _ _ _ _ _ e.0 e.1 e.2 c.requires.1 _ _ is _ c.put.ensures,
+      leaf_count _ _ _ _ _ e.0 e.1 e.2 c.requires.1 _ _ is,
+      leaf_long _ _ _ _ _ e.0 e.1 e.2 c.requires.1 _ _ is _ c.put.ensures,
     )
 
 pub returns : goal.returns
 returns c = let a = c.args in
-    let e = c.loop-c in
-    let end = c.loop-c-test.false in
+    let e = c.loop-c.invariant in
+    let none = c.in-None.ensures.steps.0 in
     record {
-      next = leaves_last (has a.set.bits) _ _ e.next e.c e.tree e.invariant.0 e.invariant.1 e.invariant.2 c.requires.1 end
-          ∙ ap (λ (k : ℕ). a.at + k) (sym (leaves_sizes (listed code_count a.set.bits)));
-      block = sym (leaves_end (has a.set.bits) _ _ e.next e.c e.tree e.invariant.0 e.invariant.1 e.invariant.2 c.requires.1 end);
+      next = leaves_last _ _ _ _ _ e.0 e.1 e.2 c.requires.1 none ∙ ap (λ (k : ℕ). a.at + k) (sym (leaves_sizes (listed code_count a.set.bits)));
+      block = sym (leaves_end _ _ _ _ _ e.0 e.1 e.2 c.requires.1 none);
     }
