@@ -1,11 +1,11 @@
 -- The call: its refusals in their order, and what an accepted one leaves.
 use mathlib.Core.Path.{◌≡◌, sym, ◌∙◌, ap, subst}
-use mathlib.Core.List.{List, ◌++◌, append-nil}
+use mathlib.Core.List.{List, ◌++◌}
 use mathlib.Core.Bool.{Bool, true, false, ◌&&◌}
 use Prim.Native.Nat.{ℕ, zero, suc, ◌-◌, ◌≤◌, ◌<◌}
 use native.Mathlib.Nat.{zero-add}
 use native.Mathlib.Omega.{arith}
-use lib.ListN.{length, drop, drop_of_length-le}
+use lib.ListN.{length, drop, replicate}
 use borrow.Author.Tests.{lt-leb, le-leb}
 use lib.Dec.{ltb}
 use Rattle.rules.specs.Words.{Has, each, mem, zeros}
@@ -15,8 +15,6 @@ use Rattle.rules.specs.Mining.{Log, is_empty, mined}
 use Rattle.rules.specs.LogBlock.{sealed, log_sized, log_events}
 use Rattle.rules.specs.TreeBlock.{entries, tree_block}
 use Rattle.rules.specs.Calls.{told, after, cleared, log_sound, mining, tree_of, MineSays, code_count}
-use Rattle.rules.specs.declared.Answer.{Answer}
-use Rattle.rules.specs.declared.Answer.TheVariants.{Gives, Refused}
 use Rattle.rules.proofs.ListLaws.{has_each}
 use Rattle.rules.proofs.SameEpisodes.{Same, any_same, mined_same}
 use Rattle.rules.proofs.Occurring.{Below}
@@ -30,22 +28,26 @@ use Rattle.mine_views.specs.Sublogs.{Sight, shown, sight, sublog, Tight, root_si
 use Rattle.mine_views.proofs.HeartbeatLaws.{quiet_tight, quiet_tree}
 use Rattle.mine_bases.specs.Writing.{laid}
 use Rattle.mine_nodes.specs.Ready.{Ready}
+use Rattle.std.specs.Prelude.{Ok, Err}
+use Rattle.rules.specs.Refusals.{Answer, refused}
+use Rattle.rules.specs.declared.Refusal.{Refusal}
+use Rattle.rules.specs.declared.Reason.TheVariants.{LogLength, OutLength, WorkLength}
 
 -- ---- the refusals, by the tests that lead to each
 
 module _ (log out work : List ℕ) where
   module _ (t : Bool) (call : t ≡ log_sized log) where
-    pub mining_length : t ≡ false → mining 1 log out work ≡ Refused 1 0
+    pub mining_length : t ≡ false → mining 1 log out work ≡ refused LogLength 0
     unfolding mining
     mining_length h = simp (sym call ∙ h)
 
     module _ (whole : t ≡ true) where
-      pub mining_out : length out < 512 → mining 1 log out work ≡ Refused 2 0
+      pub mining_out : length out < 512 → mining 1 log out work ≡ refused OutLength 0
       unfolding mining
       mining_out h = simp (sym call ∙ whole, lt-leb _ _ h)
 
       module _ (o : 512 ≤ length out) where
-        pub mining_work : length work < 16384 → mining 1 log out work ≡ Refused 3 0
+        pub mining_work : length work < 16384 → mining 1 log out work ≡ refused WorkLength 0
         unfolding mining
         mining_work h = simp (sym call ∙ whole, le-leb _ _ o, lt-leb _ _ h)
 
@@ -54,23 +56,19 @@ module _ (log out work : List ℕ) where
         mining_log h = simp (sym call ∙ whole, le-leb _ _ o, le-leb _ _ h)
 
   -- a refusal writes nothing
-  pub refused_says : (number place : ℕ) → mining 1 log out work ≡ Refused number place → MineSays 1 log out work (Refused number place) out work
-  refused_says number place e =
+  pub refused_says : (refusal : Refusal) → mining 1 log out work ≡ Err refusal → MineSays 1 log out work (Err refusal) out work
+  refused_says refusal e =
       record {
         answer = sym (ap (λ (a : Answer). told a (size (tree_of 1 log))) e);
         block = sym (ap (λ (a : Answer). after a (tree_block (tree_of 1 log) ++ drop 512 out) out) e);
         memory = sym (ap (λ (a : Answer). after a (cleared 16384 work) work) e);
       }
 
-  -- the log's own refusal is handed on
-  pub handed_says : (r : Answer) → mining 1 log out work ≡ log_sound 1 log → r ≡ log_sound 1 log → (number place : ℕ) → r ≡ Refused number place → MineSays 1 log out work r out work
-  handed_says r m call number place e = rw e (refused_says number place (m ∙ sym call ∙ e))
-
-  pub gives_says : (end : ℕ) → mining 1 log out work ≡ Gives end → (n : ℕ) → n ≡ size (tree_of 1 log) → (out' work' : List ℕ) → out' ≡ tree_block (tree_of 1 log) ++ drop 512 out → work' ≡ cleared 16384 work →
-      MineSays 1 log out work (Gives n) out' work'
+  pub gives_says : (end : ℕ) → mining 1 log out work ≡ Ok end → (n : ℕ) → n ≡ size (tree_of 1 log) → (out' work' : List ℕ) → out' ≡ tree_block (tree_of 1 log) ++ drop 512 out → work' ≡ cleared 16384 work →
+      MineSays 1 log out work (Ok n) out' work'
   gives_says end e n f out' work' g h =
       record {
-        answer = ap Gives f ∙ sym (ap (λ (a : Answer). told a (size (tree_of 1 log))) e);
+        answer = ap Ok f ∙ sym (ap (λ (a : Answer). told a (size (tree_of 1 log))) e);
         block = g ∙ sym (ap (λ (a : Answer). after a (tree_block (tree_of 1 log) ++ drop 512 out) out) e);
         memory = h ∙ sym (ap (λ (a : Answer). after a (cleared 16384 work) work) e);
       }
@@ -113,8 +111,9 @@ module _ (l : Log) (small : Below code_count l) (v : View) (sees : sight v ≡ r
 
 -- ---- the block
 
-pub clear_whole : (n : ℕ) (b : List ℕ) → length b ≡ n → zeros n ++ drop n b ≡ zeros n
-clear_whole n b h = ap (λ (z : List ℕ). zeros n ++ z) (drop_of_length-le b {i = n} (omega arith)) ∙ append-nil (zeros n)
+pub filled : (n m : ℕ) (new : List ℕ) → new ≡ replicate n 0 → n ≡ m → new ≡ zeros m
+unfolding zeros
+filled n m new e f = e ∙ ap (λ (k : ℕ). replicate k 0) f
 
 drop_zeros : (k n : ℕ) → drop k (zeros n) ≡ zeros (n - k)
 unfolding zeros

@@ -2,10 +2,9 @@
 use mathlib.Core.Path.{◌≡◌}
 use mathlib.Core.List.{List}
 use Prim.Native.Nat.{ℕ}
-use Rattle.rules.specs.Refusals.{Given}
+use Rattle.rules.specs.Refusals.{Given, Answer}
 use Rattle.rules.specs.LogBlock.{log_events}
 use Rattle.rules.specs.Calls.{code_count, log_reading, tree_of, MineSays}
-use Rattle.rules.specs.declared.Answer.{Answer}
 use Rattle.rules.proofs.AnswerLaws.{given_is}
 use Rattle.rules.proofs.SameEpisodes.{Same, mined_same}
 use Rattle.mine_call.proofs.Joined.{call_same}

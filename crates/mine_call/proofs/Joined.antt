@@ -8,15 +8,15 @@ use lib.ListN.{length, drop}
 use lib.Dec.{leb}
 use Rattle.rules.specs.Trees.{Tree, size}
 use Rattle.rules.specs.Mining.{mined}
-use Rattle.rules.specs.Refusals.{Given, demand}
+use Rattle.rules.specs.Refusals.{Given, demand, Answer}
 use Rattle.rules.specs.LogBlock.{log_sized, log_events}
 use Rattle.rules.specs.TreeBlock.{tree_block}
 use Rattle.rules.specs.Calls.{code_count, told, after, cleared, log_sound, log_reading, mining, tree_of, MineSays}
-use Rattle.rules.specs.declared.Answer.{Answer}
-use Rattle.rules.specs.declared.Answer.TheVariants.{Gives}
 use Rattle.rules.proofs.AnswerLaws.{given_is, demand_given}
 use Rattle.rules.proofs.Unions.{mined_order, mined_twice}
 use Rattle.log_episodes.proofs.JoinedLogs.{accepted_events, joined_accepted}
+use Rattle.std.specs.Prelude.{Ok}
+use Rattle.rules.specs.declared.Reason.TheVariants.{LogLength, OutLength, WorkLength}
 
 -- ---- the trees
 
@@ -34,29 +34,29 @@ tree_twice w a ga = ap (mined code_count) (accepted_events w a a ga ga) ∙ mine
 
 -- 2 and 3, for what is lent beside the log, and then the log's own answer
 abbrev lent_then : List ℕ → List ℕ → Answer → Answer
-lent_then out work rest = demand (leb 512 (length out)) 2 0 (demand (leb 16384 (length work)) 3 0 rest)
+lent_then out work rest = demand (leb 512 (length out)) OutLength 0 (demand (leb 16384 (length work)) WorkLength 0 rest)
 
 module _ (w : ℕ) (out work : List ℕ) where
-  accepted_mining : (log : List ℕ) (end : ℕ) → log_reading w log ≡ Gives end → mining w log out work ≡ lent_then out work (Gives end)
+  accepted_mining : (log : List ℕ) (end : ℕ) → log_reading w log ≡ Ok end → mining w log out work ≡ lent_then out work (Ok end)
   unfolding log_reading mining
   accepted_mining log end e =
-      let d = demand_given (log_sized log) 1 0 (log_sound w log) end e in
-      ap (λ (t : Bool). demand t 1 0 (lent_then out work (log_sound w log))) d.0 ∙ ap (lent_then out work) d.1
+      let d = demand_given (log_sized log) LogLength 0 (log_sound w log) end e in
+      ap (λ (t : Bool). demand t LogLength 0 (lent_then out work (log_sound w log))) d.0 ∙ ap (lent_then out work) d.1
 
   -- whatever number the log's answer gives, the call answers and writes the same
-  module _ {A : Type 0} (f : Answer → A) (same : (i j : ℕ) → f (Gives i) ≡ f (Gives j)) where
-    lent_same : (i j : ℕ) → f (lent_then out work (Gives i)) ≡ f (lent_then out work (Gives j))
+  module _ {A : Type 0} (f : Answer → A) (same : (i j : ℕ) → f (Ok i) ≡ f (Ok j)) where
+    lent_same : (i j : ℕ) → f (lent_then out work (Ok i)) ≡ f (lent_then out work (Ok j))
     lent_same i j = by (leb 512 (length out)) (leb 16384 (length work))
       where
-        by : (s t : Bool) → f (demand s 2 0 (demand t 3 0 (Gives i))) ≡ f (demand s 2 0 (demand t 3 0 (Gives j)))
+        by : (s t : Bool) → f (demand s OutLength 0 (demand t WorkLength 0 (Ok i))) ≡ f (demand s OutLength 0 (demand t WorkLength 0 (Ok j)))
         by true true = same i j
         by true false = refl
         by false t = refl
 
-  module _ (x y : List ℕ) (i j : ℕ) (sound-x : log_reading w x ≡ Gives i) (sound-y : log_reading w y ≡ Gives j) (tree : tree_of w x ≡ tree_of w y) where
-    said_same : {A : Type 0} (f : Answer → Tree → A) → ((t : Tree) (i j : ℕ) → f (Gives i) t ≡ f (Gives j) t) → f (mining w x out work) (tree_of w x) ≡ f (mining w y out work) (tree_of w y)
+  module _ (x y : List ℕ) (i j : ℕ) (sound-x : log_reading w x ≡ Ok i) (sound-y : log_reading w y ≡ Ok j) (tree : tree_of w x ≡ tree_of w y) where
+    said_same : {A : Type 0} (f : Answer → Tree → A) → ((t : Tree) (i j : ℕ) → f (Ok i) t ≡ f (Ok j) t) → f (mining w x out work) (tree_of w x) ≡ f (mining w y out work) (tree_of w y)
     said_same f same =
-        ap (λ (a : Answer). f a (tree_of w x)) (accepted_mining x i sound-x) ∙ ap (f (lent_then out work (Gives i))) tree
+        ap (λ (a : Answer). f a (tree_of w x)) (accepted_mining x i sound-x) ∙ ap (f (lent_then out work (Ok i))) tree
         ∙ lent_same (λ a. f a (tree_of w y)) (same (tree_of w y)) i j ∙ ap (λ (a : Answer). f a (tree_of w y)) (sym (accepted_mining y j sound-y))
 
     -- two accepted logs of one tree, mined with the same memory lent: one answer, one block, one work

@@ -1,4 +1,3 @@
-pub mod ClearLaws
 pub mod CallLaws
 pub mod Written
 pub mod Joined

@@ -13,8 +13,6 @@ use Rattle.rules.specs.Mining.{Episode, occurring}
 use Rattle.rules.specs.LogBlock.{log_episodes, log_events, log_sized}
 use Rattle.rules.specs.TreeBlock.{tree_block}
 use Rattle.rules.specs.Calls.{code_count, entry_count, told, after, cleared, log_sound, mining, tree_of, checking, MineSays}
-use Rattle.rules.specs.declared.Answer.{Answer}
-use Rattle.rules.specs.declared.Answer.TheVariants.{Gives, Refused}
 use Rattle.rules.proofs.AnswerLaws.{demand_given, gives_same, refused_gives}
 use Rattle.rules.proofs.Distinct.{count_of}
 use Rattle.rules.proofs.ListLaws.{each_has}
@@ -27,23 +25,26 @@ use Rattle.rules.proofs.Leaves.{one_leaf, no_leaf}
 use Rattle.rules.proofs.TreeBlockLaws.{tree_block_length, block_one}
 use Rattle.log_episodes.proofs.EpisodeLaws.{log_codes}
 use Rattle.tree_check.proofs.Accepted.{mined_accepted}
+use Rattle.std.specs.Prelude.{Ok, Err}
+use Rattle.rules.specs.Refusals.{Answer}
+use Rattle.rules.specs.declared.Reason.TheVariants.{LogLength, OutLength, WorkLength}
 
-told_given : (a : Answer) (m n : ℕ) → Gives n ≡ told a m → ((end : ℕ) × (a ≡ Gives end)) × (n ≡ m)
-told_given (Gives end) m n e = ((end, refl), gives_same n m e)
-told_given (Refused number place) m n e = refused_gives number place n (sym e)
+told_given : (a : Answer) (m n : ℕ) → Ok n ≡ told a m → ((end : ℕ) × (a ≡ Ok end)) × (n ≡ m)
+told_given (Ok end) m n e = ((end, refl), gives_same n m e)
+told_given (Err refusal) m n e = refused_gives refusal n (sym e)
 
-module _ (log out work : List ℕ) (n : ℕ) (out' work' : List ℕ) (says : MineSays 1 log out work (Gives n) out' work') where
-  accepted : ((end : ℕ) × (mining 1 log out work ≡ Gives end)) × (n ≡ size (tree_of 1 log))
+module _ (log out work : List ℕ) (n : ℕ) (out' work' : List ℕ) (says : MineSays 1 log out work (Ok n) out' work') where
+  accepted : ((end : ℕ) × (mining 1 log out work ≡ Ok end)) × (n ≡ size (tree_of 1 log))
   accepted = told_given (mining 1 log out work) (size (tree_of 1 log)) n says.answer
 
   -- the log is sound
-  sound : (end : ℕ) × (log_sound 1 log ≡ Gives end)
+  sound : (end : ℕ) × (log_sound 1 log ≡ Ok end)
   unfolding mining
   sound =
       let end = accepted.0.0 in
-      let a = demand_given (log_sized log) 1 0 _ end accepted.0.1 in
-      let b = demand_given (leb 512 (length out)) 2 0 _ end a.1 in
-      (end, (demand_given (leb 16384 (length work)) 3 0 (log_sound 1 log) end b.1).1)
+      let a = demand_given (log_sized log) LogLength 0 _ end accepted.0.1 in
+      let b = demand_given (leb 512 (length out)) OutLength 0 _ end a.1 in
+      (end, (demand_given (leb 16384 (length work)) WorkLength 0 (log_sound 1 log) end b.1).1)
 
   pub codes_below : Below code_count (log_events 1 log)
   codes_below = events_below code_count (log_episodes 1 log) (log_codes 1 log sound.0 (omega arith) sound.1)
@@ -67,8 +68,8 @@ module _ (log out work : List ℕ) (n : ℕ) (out' work' : List ℕ) (says : Min
   work_cleared = says.memory ∙ ap (λ (a : Answer). after a (cleared 16384 work) work) accepted.0.1
 
   -- THEOREM: checking accepts them, and counts the nodes that mining answered
-  pub block_checked : checking (take 512 out') ≡ Gives n
-  block_checked = ap checking block_written ∙ mined_accepted (log_events 1 log) codes_below no_heartbeat ∙ ap Gives (sym accepted.1)
+  pub block_checked : checking (take 512 out') ≡ Ok n
+  block_checked = ap checking block_written ∙ mined_accepted (log_events 1 log) codes_below no_heartbeat ∙ ap Ok (sym accepted.1)
 
   fits : size (tree_of 1 log) ≤ entry_count
   fits = omega (arith, bound.mined_fits code_count (log_events 1 log) codes_below (omega arith))

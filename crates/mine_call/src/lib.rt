@@ -15,26 +15,14 @@ ghost use Rattle.mine_views.specs.Sublogs.{sight, root_sight};
 ghost use Rattle.mine_root.specs.Widened.{quietly};
 
 use mine_views::View;
-use rules::{Answer, HEARTBEAT, MINE_WORK, TREE_SIZE};
-
-// The first n bytes become zero.
-fn clear(bytes: &mut [u8], n: usize)
-    requires { n ≤ length bytes.old }
-    ensures { bytes.new ≡ zeros n ++ drop n bytes.old }
-{
-    let mut i: usize = 0;
-    while i < n {
-        bytes[i] = 0;
-        i += 1;
-    }
-}
+use rules::{Answer, HEARTBEAT, MINE_WORK, Reason, Refusal, TREE_SIZE};
 
 // Writes the block of the tree of listed episodes, of which `met` is the root's view, and answers the number of nodes.
 fn mine_tree(log: &[u8], places: &[u8], w: usize, tree: &mut [u8], met: View) -> usize
     requires { (length tree.old ≡ 512) × Listed w log.now places.now × (quietly (sight met) ≡ root_sight code_count (each without_heartbeats (episodes_of w log.now places.now))) }
     ensures { (result ≡ size (mined code_count (each without_heartbeats (episodes_of w log.now places.now)))) × (tree.new ≡ tree_block (mined code_count (each without_heartbeats (episodes_of w log.now places.now)))) }
 {
-    clear(tree, TREE_SIZE);
+    tree.fill(0);
     let v = mine_root::quiet(met);
     let nodes = mine_nodes::mine_node(log, places, w, tree, v, 0);
     block_seal::seal(tree);
@@ -47,9 +35,10 @@ fn list_again(log: &[u8], work: &mut [u8], n: usize, beats: bool) -> usize
     ensures { (length work.new ≡ 16384) × Lists 1 log.now result work.new }
 {
     if beats {
-        return mine_gather::gather(log, work, 1, true);
+        mine_gather::gather(log, work, 1, true)
+    } else {
+        n
     }
-    n
 }
 
 // Writes the block of a sound log's tree, and answers the number of nodes: each distinct episode is listed, and the list is walked. The work is zero afterwards.
@@ -59,10 +48,9 @@ fn mine_log(log: &[u8], tree: &mut [u8], work: &mut [u8]) -> usize
 {
     let stored = mine_gather::gather(log, work, 1, false);
     let met = mine_root::root_of(log, &work[..2 * stored], 1);
-    let codes = met.keep;
-    let n = list_again(log, work, stored, codes.has_code(HEARTBEAT));
+    let n = list_again(log, work, stored, met.keep.has_code(HEARTBEAT));
     let nodes = mine_tree(log, &work[..2 * n], 1, tree, met);
-    clear(work, MINE_WORK);
+    work.fill(0);
     nodes
 }
 
@@ -71,27 +59,24 @@ pub fn mine(log: &[u8], out: &mut [u8], work: &mut [u8]) -> Answer
     ensures { MineSays 1 log.now out.old work.old result out.new work.new }
 {
     if !log_whole::sized(log) {
-        return Answer::Refused {
-            number: 1,
+        return Err(Refusal {
+            reason: Reason::LogLength,
             place: 0,
-        };
+        });
     }
     if out.len() < TREE_SIZE {
-        return Answer::Refused {
-            number: 2,
+        return Err(Refusal {
+            reason: Reason::OutLength,
             place: 0,
-        };
+        });
     }
     if work.len() < MINE_WORK {
-        return Answer::Refused {
-            number: 3,
+        return Err(Refusal {
+            reason: Reason::WorkLength,
             place: 0,
-        };
+        });
     }
-    let r = log_whole::sound_log(log, 1);
-    let Answer::Gives(_) = r else {
-        return r;
-    };
-    let nodes = mine_log(log, &mut out[0..TREE_SIZE], &mut work[0..MINE_WORK]);
-    Answer::Gives(nodes)
+    log_whole::sound_log(log, 1)?;
+    let nodes = mine_log(log, &mut out[..TREE_SIZE], &mut work[..MINE_WORK]);
+    Ok(nodes)
 }
