@@ -7,12 +7,14 @@ ghost use Rattle.gateway.specs.Packed.{packed, AddPacked, MinePacked, JudgePacke
 
 use rules::{Answer, Verdict};
 
+// The value; or the number of a refusal's reason and, below it, the place.
 fn pack(answer: Answer) -> u64
     ensures { result ≡ packed answer }
 {
     match answer {
         Ok(n) => n as u64 % 4294967296,
-        Err(refusal) => u64::from(u8::from(refusal.reason)) * 4294967296 + refusal.place as u64 % 4294967296,
+        Err(refusal) => u64::from(u8::from(refusal.reason)) * 4294967296
+            + refusal.place as u64 % 4294967296,
     }
 }
 
