@@ -11,7 +11,7 @@ use code_sets::{Bits, CodeSet};
 use cut_parts::Parts;
 use rules::{CODE_COUNT, NO_CODE};
 
-// What joins two codes, by the edges between them: an edge either way, both edges or none, or not both.
+// What joins two codes, by the edges between them: an edge either way, both edges or none, or not both. Three cases and no closure, as the definition goes by them.
 #[derive(Clone, Copy, Debug, PartialEq, Eq)]
 pub enum Bond {
     Either,

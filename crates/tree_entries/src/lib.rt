@@ -10,14 +10,14 @@ use code_sets::CodeSet;
 use rules::{ACTIVITY, CHOICE, ENTRY_COUNT, HEARTBEAT, LOOP, NO_CODE, SILENT};
 
 // Where the rule for a node or a list ends, and the codes of leaves met so far.
-#[derive(Clone, Copy)]
+#[derive(Clone, Copy, Debug, PartialEq, Eq)]
 pub struct Met {
     pub next: usize,
     pub seen: CodeSet,
 }
 
 // What an entry tells by itself: all of its node, or that its list of children decides.
-#[derive(Clone, Copy)]
+#[derive(Clone, Copy, Debug, PartialEq, Eq)]
 pub enum Entry {
     Settled(Met),
     Operator { children: u8, size: u8 },
