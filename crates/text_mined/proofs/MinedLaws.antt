@@ -10,18 +10,15 @@ use Rattle.rules.specs.Trees.{size}
 use Rattle.rules.specs.LogBlock.{log_sized, log_episodes, log_events}
 use Rattle.rules.specs.TreeBlock.{tree_block}
 use Rattle.rules.specs.Calls.{code_count, told, after, log_sound, log_reading, mining, tree_of, MineSays, entry_count}
-use Rattle.rules.specs.Listing.{listing, refusal_line}
 use Rattle.rules.specs.Printed.{mined_by, mined_text}
 use Rattle.rules.proofs.AnswerLaws.{demand_given}
 use Rattle.rules.proofs.HeartbeatLaws.{events_below}
 use Rattle.rules.proofs.MinedTree.{mined_fits}
 use Rattle.log_episodes.proofs.EpisodeLaws.{log_codes}
 use Rattle.text_writing.specs.Writing.{Wrote}
-use Rattle.text_writing.proofs.WroteLaws.{wrote_most}
 use Rattle.text_mined.specs.Mined.{Listable, answer_text}
 use Rattle.std.specs.Prelude.{Ok, Err}
-use Rattle.rules.specs.Refusals.{Answer, refused}
-use Rattle.rules.specs.declared.Refusal.{Refusal}
+use Rattle.rules.specs.Refusals.{Answer}
 use Rattle.rules.specs.declared.Reason.TheVariants.{LogLength}
 
 -- ---- a call of mining with enough of both memories
