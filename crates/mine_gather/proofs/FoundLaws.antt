@@ -11,16 +11,12 @@ use Rattle.mine_places.specs.Places.{places_in, place_at, codes_of, events_of, e
 use Rattle.mine_places.proofs.ListLaws.{all_has}
 use Rattle.mine_gather.specs.Gathering.{list_of, listed_by, Listing, Finds}
 use Rattle.mine_gather.specs.declared.Found.{Found}
-use Rattle.mine_gather.specs.declared.Found.TheVariants.{Known, Room}
+use Rattle.mine_gather.specs.declared.Found.TheVariants.{Known}
 use Rattle.mine_gather.proofs.PlaceLaws.{place_listed}
 
 -- an episode that is known is listed
 pub found_known : (f : Found) → f ≡ Known → (l : Log) (w : ℕ) (events log : List ℕ) (at : ℕ) → events ≡ events_of w log at → Finds f l (codes_of w events) → Has (without_heartbeats (episode_of w log at)) (each without_heartbeats l)
 found_known f e l w events log at g h = subst (λ (x : Episode). Has (without_heartbeats x) (each without_heartbeats l)) (ap (codes_of w) g) (subst (λ (x : Found). Finds x l (codes_of w events)) e h)
-
--- a free slot is one of the table's
-pub room_slot : (f : Found) (slot : ℕ) → f ≡ Room slot → (l : Log) (e : Episode) → Finds f l e → slot < 2048
-room_slot f slot e l t h = subst (λ (x : Found). Finds x l t) e h
 
 module _ (w : ℕ) (log : List ℕ) (n : ℕ) (work : List ℕ) (l : Listing w log n work) (few : n ≤ 4080) (k : ℕ) (some : 0 < k) (most : k ≤ n) where
   listed : Has (place_at work (2 * (k - 1))) (places_in (list_of n work))

@@ -51,12 +51,6 @@ pub record Quiet (codes rows : List ℕ) (ends : CodeSet) (keep watched first kn
 known_first : (rows : List ℕ) (ends : CodeSet) (keep watched first : ℕ) → Each keep watched first (λ starts b. Known (graph_of rows starts ends) None keep first)
 known_first rows ends keep watched first starts f b h x on = let p = and_cases (has starts.bits x) (has keep x) (sym (f x) ∙ on) in (p.1, p.0)
 
--- before the first code
-pub quiet_start : (codes rows : List ℕ) (ends : CodeSet) (keep watched first wait : ℕ) (left : List ℕ) → left ≡ codes → All (λ c. c < code_count) codes →
-    Quiet codes rows ends keep watched first first wait left
-quiet_start codes rows ends keep watched first wait left e all =
-    rw e (record { coded = all; last = None; opened = tt; told = known_first rows ends keep watched first; same = λ starts f b h. refl })
-
 module _ {codes rows : List ℕ} {ends : CodeSet} {keep watched first known wait : ℕ} {rest : List ℕ} (q : Quiet codes rows ends keep watched first known wait rest) where
   -- nothing is left of the open set without the ends: the last code is an end
   noted : (left : ℕ) → ((x : ℕ) → has left x ≡ (has wait x && not (has ends.bits x))) → left ≡ 0 → (starts : CodeSet) → NotedEnd (graph_of rows starts ends) q.last

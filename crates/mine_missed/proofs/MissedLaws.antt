@@ -81,9 +81,6 @@ module _ (own : ℕ) (sets : List ℕ) (missed : ℕ) where
   abbrev pub Below : ℕ → ℕ → Type 0
   Below m k = (j : ℕ) → has m j ≡ (has missed j || (ltb j k && not (any (has own) (part_at sets j))))
 
-  pub below_none : Below missed 0
-  below_none j = rw (le-ltb j 0 (omega arith), or_off)
-
   ltb_more : (j k : ℕ) → ltb j (k + 1) ≡ (ltb j k || eqb j k)
   ltb_more j k =
       ⊎_elim

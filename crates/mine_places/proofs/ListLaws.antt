@@ -6,11 +6,10 @@ use Prim.Native.Nat.{ℕ, zero, suc, ◌+◌, ◌-◌, ◌*◌, ◌/◌, ◌≤�
 use native.Mathlib.Nat.{suc-mul}
 use native.Mathlib.Numerals.{add-one}
 use native.Mathlib.Omega.{arith}
-use lib.ListN.{length, get_or, drop, length-drop, drop_of_length-le}
-use lib.Seq.{drop-cons, drop-drop}
+use lib.ListN.{length, get_or, drop, length-drop}
+use lib.Seq.{drop-cons}
 use Rattle.rules.specs.Words.{Has}
 use Rattle.rules.specs.LogBlock.{codes_by}
-use Rattle.rules.specs.Calls.{code_count}
 use Rattle.mine_places.specs.Places.{places_in, place_at, codes_after, codes_of, All}
 
 drop_next : (s : List ℕ) (i : ℕ) → i < length s → drop i s ≡ get_or s i 0 ∷ drop (i + 1) s
@@ -62,16 +61,6 @@ module _ (w : ℕ) (some : 1 ≤ w) where
           let e : suc v - 1 ≡ v = omega arith in
           ap (λ (k : ℕ). x ∷ codes_after (suc v) k s) e ∙ ap (◌∷◌ x) (over (suc v) v s)
 
-  module _ (s : List ℕ) (i : ℕ) where
-    pub codes_next : i < length s → codes_of w (drop i s) ≡ get_or s i 0 ∷ codes_of w (drop (i + w) s)
-    codes_next h =
-        ap (codes_of w) (drop_next s i h) ∙ first (get_or s i 0) (drop (i + 1) s)
-        ∙ ap (λ (t : List ℕ). get_or s i 0 ∷ codes_of w (drop w t)) (sym (drop_next s i h))
-        ∙ ap (λ (t : List ℕ). get_or s i 0 ∷ codes_of w t) (drop-drop w i s)
-
-    pub codes_end : length s ≤ i → codes_of w (drop i s) ≡ []
-    codes_end h = ap (codes_of w) (drop_of_length-le s h)
-
   -- the codes of n events
   pub codes_counted : (n : ℕ) (s : List ℕ) → length s ≡ n * w → codes_by n w s ≡ codes_of w s
   unfolding codes_by
@@ -81,14 +70,3 @@ module _ (w : ℕ) (some : 1 ≤ w) where
   codes_counted (suc n) (x ∷ s) e =
       ap (λ (t : List ℕ). x ∷ t) (codes_counted n (drop w (x ∷ s)) (length-drop w (x ∷ s) ∙ omega (arith, suc-mul n w, e)))
       ∙ sym (first x s)
-
--- where every code from a byte on is one of the codes: the one there, and those after it
-module _ (w : ℕ) (some : 1 ≤ w) (s : List ℕ) (i : ℕ) (all : All (λ c. c < code_count) (codes_of w (drop i s))) (h : i < length s) where
-  both : All (λ c. c < code_count) (get_or s i 0 ∷ codes_of w (drop (i + w) s))
-  both = subst (All (λ c. c < code_count)) (codes_next w some s i h) all
-
-  pub code_here : get_or s i 0 < code_count
-  code_here = both.0
-
-  pub codes_after_lem : All (λ c. c < code_count) (codes_of w (drop (i + w) s))
-  codes_after_lem = both.1

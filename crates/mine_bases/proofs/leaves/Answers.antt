@@ -1,17 +1,9 @@
-use mathlib.Core.Path.{◌≡◌, refl, sym, ap, ◌∙◌}
+use mathlib.Core.Path.{sym, ap, ◌∙◌}
 use Prim.Native.Nat.{ℕ, ◌+◌}
-use borrow.Author.Rules.{rules}
 use Rattle.rules.specs.Calls.{code_count}
 use Rattle.code_sets.specs.Bits.{listed}
-use Rattle.mine_bases.proofs.WritingLaws.{leaf_room, leaf_next, leaf_count, leaf_long, leaves_end, leaves_last, leaves_sizes}
+use Rattle.mine_bases.proofs.WritingLaws.{leaf_next, leaf_count, leaf_long, leaves_end, leaves_last, leaves_sizes}
 use Rattle.mine_bases.proofs.leaves.Goals as goal
-
-pub loop-c-init : goal.loop-c-init
-loop-c-init c = let e : c.into_iter-c-iterator.result.left ≡ c.args.set.bits = search rules in rw e (refl, refl, c.requires.0)
-
-pub put-requires : goal.put-requires
-put-requires c = let e = c.loop-c.invariant in
-    (search rules, leaf_room _ _ _ _ _ e.0 e.1 e.2 c.requires.1 _ _ c.in-Some.ensures.steps)
 
 pub loop-c-preserved : goal.loop-c-preserved
 loop-c-preserved c = let e = c.loop-c.invariant in

@@ -1,27 +1,15 @@
-use mathlib.Core.Path.{◌≡◌, refl, sym, ◌∙◌}
+use mathlib.Core.Path.{◌≡◌, sym, ◌∙◌}
 use mathlib.Core.List.{[], ◌∷◌}
 use borrow.Author.Rules.{rules}
 use Rattle.graph_rows.specs.Edges.{meant}
 use Rattle.mine_places.specs.Places.{codes_of, episodes_of}
-use Rattle.mine_places.proofs.PassLaws.{record_here, events_here, listed_next, pass_read, pass_end}
+use Rattle.mine_places.proofs.PassLaws.{listed_next, pass_read, pass_end}
 use Rattle.mine_views.specs.Sublogs.{sight}
 use Rattle.mine_trails.specs.Growing.{with_pieces}
 use Rattle.mine_trails.proofs.TrailLaws.{drawn_from}
 use Rattle.mine_graph.proofs.PassLaws.{graph_nil, graph_append}
 use Rattle.mine_graph.proofs.graph_of.Goals as goal
 use Rattle.mine_graph.proofs.graph_of.Goals.{then-not-nothing_new, else-not-nothing_new}
-
-pub loop-i-init : goal.loop-i-init
-loop-i-init c = (search rules, refl, search rules, c.meet-first.ensures)
-
-pub events_at-events-requires : goal.events_at-events-requires
-events_at-events-requires c = (search rules, search record_here)
-
-pub nothing_new-requires : goal.nothing_new-requires
-nothing_new-requires c = (c.loop-i.invariant.2, search events_here depth 9)
-
-pub graph_codes-g-requires : goal.graph_codes-g-requires
-graph_codes-g-requires c = search events_here depth 9
 
 pub loop-i-preserved : goal.loop-i-preserved
 loop-i-preserved c = let a = c.args in

@@ -1,12 +1,9 @@
 use mathlib.Core.Path.{sym, ◌∙◌}
 use borrow.Author.Rules.{rules}
 use borrow.Author.Tests.{eqb-true}
-use Rattle.mine_places.proofs.CodesLaws.{left_first, left_turn, left_end, left_less, code_given}
-use Rattle.mine_graph.proofs.QuietLaws.{quiet_start, quiet_event, quiet_break, quiet_pass, quiet_end}
+use Rattle.mine_places.proofs.CodesLaws.{left_turn, left_end, left_less, code_given}
+use Rattle.mine_graph.proofs.QuietLaws.{quiet_event, quiet_break, quiet_pass, quiet_end}
 use Rattle.mine_graph.proofs.nothing_new.Goals as goal
-
-pub loop-c-init : goal.loop-c-init
-loop-c-init c = quiet_start _ _ _ _ _ _ _ _ (search left_first depth 9) (search rules)
 
 pub has_first-requires : goal.has_first-requires
 has_first-requires c = search code_given

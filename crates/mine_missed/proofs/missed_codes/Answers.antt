@@ -1,13 +1,7 @@
-use mathlib.Core.Path.{◌≡◌, refl, sym, ◌∙◌}
-use Rattle.mine_places.specs.Places.{codes_of}
-use Rattle.mine_places.proofs.CodesLaws.{codes_left, left_first, left_turn, left_end, left_less, code_given, codes_rest}
+use mathlib.Core.Path.{sym, ◌∙◌}
+use Rattle.mine_places.proofs.CodesLaws.{left_turn, left_end, left_less, code_given, codes_rest}
 use Rattle.mine_missed.proofs.WalkLaws.{missed_first, missed_seen, missed_cut, missed_end}
-use borrow.Author.Rules.{rules}
 use Rattle.mine_missed.proofs.missed_codes.Goals as goal
-
-pub loop-c-init : goal.loop-c-init
-loop-c-init c = let e : codes_left c.into_iter-c-iterator.result ≡ codes_of c.args.w c.args.events.now = search left_first depth 9 in
-    rw e (search rules, refl)
 
 pub has_first-requires : goal.has_first-requires
 has_first-requires c = search code_given depth 7

@@ -1,19 +1,9 @@
-use mathlib.Core.Path.{refl}
-use Rattle.mine_places.proofs.PassLaws.{listed_next, record_here, events_here, pass_end, pass_read}
+use Rattle.mine_places.proofs.PassLaws.{listed_next, pass_end, pass_read}
 use Rattle.mine_views.specs.Sublogs.{sight}
 use Rattle.mine_missed.specs.Missed.{missed_by}
 use Rattle.mine_missed.proofs.MissedLaws.{missed_nil, missed_append, missed_all}
 use borrow.Author.Rules.{rules}
 use Rattle.mine_missed.proofs.missed_of.Goals as goal
-
-pub loop-i-init : goal.loop-i-init
-loop-i-init c = (search rules, refl)
-
-pub events_at-events-requires : goal.events_at-events-requires
-events_at-events-requires c = (search rules, search record_here depth 9)
-
-pub missed_codes-m-requires : goal.missed_codes-m-requires
-missed_codes-m-requires c = (search rules, search events_here depth 9)
 
 pub loop-i-preserved : goal.loop-i-preserved
 loop-i-preserved c = let a = c.args in

@@ -4,6 +4,3 @@ use Rattle.mine_missed.proofs.missed_parts.Goals as goal
 
 pub returns-in-Choice : goal.returns-in-Choice
 returns-in-Choice c k lt = ⊎_elim (λ e. rw e (has_zero k)) (λ e. rw e (has_zero k)) c.in-Choice.is
-
-pub returns-in-Sequence : goal.returns-in-Sequence
-returns-in-Sequence c k lt = ⊎_elim (λ e. rw e (c.missed_of.ensures k lt)) (λ e. rw e (c.missed_of.ensures k lt)) c.in-Sequence.is

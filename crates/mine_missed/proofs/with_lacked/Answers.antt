@@ -1,14 +1,11 @@
 use native.Mathlib.Omega.{arith}
-use Rattle.mine_missed.proofs.MissedLaws.{lacked_none, below_none, below_lacked, below_met, below_all}
+use Rattle.mine_missed.proofs.MissedLaws.{lacked_none, below_lacked, below_met, below_all}
 use borrow.Author.Rules.{rules}
 use Rattle.mine_missed.proofs.with_lacked.Goals as goal
 use Rattle.mine_missed.proofs.with_lacked.Goals.{then-part-own-eq0, else-part-own-eq0}
 
 pub returns-then-own-eq0 : goal.returns-then-own-eq0
 returns-then-own-eq0 c = let a = c.args in lacked_none a.own.bits a.sets.now a.missed c.if-own-eq0.true
-
-pub loop-k-init : goal.loop-k-init
-loop-k-init c = let a = c.args in below_none a.own.bits a.sets.now a.missed
 
 pub loop-k-preserved : goal.loop-k-preserved
 loop-k-preserved c = let l = c.loop-k in
