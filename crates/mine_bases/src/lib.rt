@@ -13,7 +13,7 @@ use code_sets::CodeSet;
 use mine_plan::Base;
 use rules::{ACTIVITY, LOOP, SILENT};
 
-// A number below 256 as a byte.
+// A number below 256 as a byte: what it asks is in its contract, so a cast is enough.
 pub fn byte(n: usize) -> u8
     requires { n < 256 }
     ensures { result ≡ n }

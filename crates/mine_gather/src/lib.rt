@@ -14,6 +14,7 @@ ghost use Rattle.mine_gather.specs.Gathering.{listed_by, as_bytes, Listing, List
 
 use rules::{BLOCK_SIZE, HEARTBEAT};
 
+// Log, work, n and w stay parameters: of a struct that is lent each contract would have to say besides that the log and w stay as they are.
 // Behind the list, of at most 4,080 places of two bytes: a hint of two bytes a slot. Behind the table there is room for a byte for each listed place.
 const HINTS: usize = 8192;
 
@@ -32,6 +33,7 @@ pub enum Found {
     Crowded,
 }
 
+// Events and w stay two parameters: two records that are compared have one w, and two structs would have to be told so.
 // The slot to look at first: a number made of the codes and their order, of those of events alone where `beats` tells so.
 fn slot_of(events: &[u8], w: usize, beats: bool) -> usize
     requires { Events w events.now }
@@ -64,6 +66,7 @@ fn same_without(a: &[u8], b: &[u8], w: usize) -> bool
     mine.eq(other)
 }
 
+// A flag and no closure: the compiler makes a walk for each of its values, and each function up to `gather` would be generic over the closure.
 fn same_events(a: &[u8], b: &[u8], w: usize, beats: bool) -> bool
     requires { Events w a.now × Events w b.now }
     ensures { result ≡ true → without_heartbeats (codes_of w a.now) ≡ without_heartbeats (codes_of w b.now) }
@@ -132,6 +135,7 @@ fn gather_block(log: &[u8], work: &mut [u8], n: usize, base: usize, w: usize, be
     let block = &log[base..end];
     let mut m = n;
     let mut at: usize = 1;
+    // A place by hand: the step is the record's own length.
     for _ in 0..block[0] {
         m = list_place(log, work, m, base + at, w, beats);
         at = log_records::next_record(block, at, w);

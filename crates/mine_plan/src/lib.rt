@@ -28,6 +28,7 @@ pub enum Made {
     Cut(Operator),
 }
 
+// A fixed array with a number, which is a byte: there is no heap, and a smaller plan is a smaller frame of `mine_node`, which calls itself.
 // A cut's parts are the first n sets; `missed` has the numbers of those whose views have the empty episode.
 #[derive(Clone, Copy, Debug, PartialEq, Eq)]
 pub struct Plan {
