@@ -1,7 +1,7 @@
 // Runs the bench sheet on standard input, whose top says how its lines are read: prints each row as ok or wrong, and how many are.
 #![tactic(auto)]
 
-ghost use Rattle.std.specs.Prelude.{◌≤◌, length};
+ghost use Rattle.std.specs.Prelude.{◌≤◌};
 
 use rules::{Answer, BLOCK_SIZE, JUDGE_WORK, MINE_WORK, Refusal, TREE_SIZE, Verdict};
 

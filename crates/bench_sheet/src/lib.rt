@@ -7,7 +7,7 @@ ghost use Rattle.bench_sheet.specs.Words.{kind_named, grown, number_of, values_o
 
 use rules::{ACTIVITY, CHOICE, LOOP, PARALLEL, SEQUENCE, SILENT};
 
-// The kind of node whose name begins with a letter: tau, act, xor, seq, par, loop. 0 for any other letter.
+// The kind of node whose name begins with a letter: tau, act, xor, seq, par, loop. 0 for any other letter, as `kind_named` says.
 fn kind(letter: u8) -> u8
     ensures { result ≡ kind_named letter }
 {

@@ -132,14 +132,14 @@ impl CodeSet {
         u32::count_ones(self.bits)
     }
 
-    // The smallest code; the width where there is none.
+    // The smallest code; the width where there is none, as `least` says.
     pub fn smallest(self) -> u32
         ensures { result ≡ least code_count (has self.bits) }
     {
         u32::trailing_zeros(self.bits)
     }
 
-    // The smallest code; 0 where there is none.
+    // The smallest code; 0 where there is none, as `head_of` says.
     pub fn first(self) -> u8
         ensures { (result < code_count) × (result ≡ head_of (listed code_count self.bits)) }
     {

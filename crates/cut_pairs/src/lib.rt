@@ -3,7 +3,6 @@
 
 ghost use Rattle.std.specs.Prelude.{◌≡◌, not, ◌&&◌, ◌≤◌, ◌<◌, length};
 ghost use Rattle.std.specs.Int.Bits.{bit_or};
-ghost use Rattle.rules.specs.Mining.{head_of};
 ghost use Rattle.rules.specs.Calls.{code_count};
 ghost use Rattle.code_sets.specs.Bits.{listed};
 ghost use Rattle.cut_parts.specs.Sets.{sets_of, meets};

@@ -1,7 +1,7 @@
 // Redo parts: which codes can stand in one, by their edges to the starts and ends.
 #![tactic(auto)]
 
-ghost use Rattle.std.specs.Prelude.{◌≡◌, cond, not, ◌&&◌, ℕ, ltb};
+ghost use Rattle.std.specs.Prelude.{◌≡◌, not, ◌&&◌, ℕ, ltb};
 ghost use Rattle.rules.specs.Calls.{code_count};
 ghost use Rattle.code_sets.specs.Bits.{has, listed};
 ghost use Rattle.graph_rows.specs.Edges.{edge_of, meant};

@@ -1,7 +1,7 @@
 // Sequence: groups of codes that belong together, in the order of reach.
 #![tactic(auto)]
 
-ghost use Rattle.std.specs.Prelude.{◌≡◌, ◌∷◌, ◌++◌, ℕ, ◌≤◌, ◌<◌, take, drop};
+ghost use Rattle.std.specs.Prelude.{◌≡◌, ◌∷◌, ◌++◌, ℕ, ◌≤◌, take, drop};
 ghost use Rattle.rules.specs.Mining.{ordered};
 ghost use Rattle.rules.specs.Calls.{code_count};
 ghost use Rattle.graph_rows.specs.Edges.{edge_of};

@@ -7,7 +7,7 @@ ghost use Rattle.gateway.specs.Packed.{packed, AddPacked, MinePacked, JudgePacke
 
 use rules::{Answer, Verdict};
 
-// The value; or the number of a refusal's reason and, below it, the place.
+// The value; or the number of a refusal's reason and, below it, the place: the one number that C has for an answer.
 fn pack(answer: Answer) -> u64
     ensures { result ≡ packed answer }
 {

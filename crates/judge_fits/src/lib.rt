@@ -1,7 +1,7 @@
 // Whether a tree has an episode: the rows of every node, from the last to the first, and what the root's tell.
 #![tactic(auto)]
 
-ghost use Rattle.std.specs.Prelude.{◌≡◌, ◌≤◌, length, drop};
+ghost use Rattle.std.specs.Prelude.{◌≡◌, drop};
 ghost use Rattle.rules.specs.Words.{all};
 ghost use Rattle.rules.specs.Calls.{cleared};
 ghost use Rattle.code_sets.specs.Bits.{has};

@@ -24,7 +24,7 @@ fn chain(left: u64, table: &[u64]) -> u64
     r
 }
 
-// The row `left` joined to row i of the table, as the children of this operator are.
+// The row `left` joined to row i of the table, as the children of this operator are. A match and no closure, as the definition goes by the operator.
 #[tactic(auto, using(code_sets::proofs::BitLaws::has_or, code_sets::proofs::BitLaws::has_and))]
 fn joined_row(operator: Operator, left: u64, i: usize, table: &[u64]) -> u64
     requires { (i < 64) × (64 ≤ length table.now) }

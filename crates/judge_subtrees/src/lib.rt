@@ -1,4 +1,4 @@
-// What the entries of a tree block tell: the operator of a node, the size of a tree, the codes of its leaves.
+// What the entries of a tree block tell: the operator of a node, the size of a tree, the codes of its leaves. A tree stays a slice of known length, as the calls lend it.
 #![tactic(auto)]
 
 ghost use Rattle.std.specs.Prelude.{◌≡◌, ℕ, ◌+◌, ◌≤◌, ◌<◌, length};
@@ -10,7 +10,7 @@ ghost use Rattle.judge_subtrees.specs.Entries.{labelled};
 use code_sets::CodeSet;
 use rules::{ACTIVITY, Operator};
 
-// The operator of the node at entry v.
+// The operator of the node at entry v: the conversion, under the name that callers have for it.
 pub fn operator_at(tree: &[u8], v: usize) -> Operator
     requires { (v < entry_count) × (length tree.now ≡ 512) }
     ensures { op_of result ≡ operator_of (kind_at tree.now v) }
@@ -35,6 +35,7 @@ pub fn codes_in(tree: &[u8], v: usize, n: usize) -> CodeSet
     let mut codes = CodeSet::none();
     for k in 0..n {
         let e = (v + k) * 4;
+        // A kind as it lies in the block.
         if tree[e] == ACTIVITY {
             codes = codes.with(tree[e + 1]);
         }

@@ -1,7 +1,7 @@
 // Mining: from a log to the block of its tree.
 #![tactic(auto)]
 
-ghost use Rattle.std.specs.Prelude.{◌≡◌, ◌++◌, ◌≤◌, length, drop};
+ghost use Rattle.std.specs.Prelude.{◌≡◌, ◌≤◌, length};
 ghost use Rattle.rules.specs.Words.{zeros, each};
 ghost use Rattle.rules.specs.Heartbeats.{without_heartbeats};
 ghost use Rattle.rules.specs.Trees.{size};

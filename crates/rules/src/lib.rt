@@ -70,7 +70,7 @@ pub enum Operator {
     Loop,
 }
 
-// The kinds of a tree's entries.
+// The kinds of a tree's entries: numbers, since they are bytes of document 01's block, and are matched on as they lie there.
 pub const SILENT: u8 = 1;
 
 pub const ACTIVITY: u8 = 2;
@@ -97,7 +97,7 @@ impl From<Operator> for u8 {
     }
 }
 
-// The operator of an entry's kind.
+// The operator of an entry's kind; any other byte is taken for a loop's, as `operator_of` says.
 impl From<u8> for Operator {
     ghost from_gives = { λ kind operator. op_of operator ≡ operator_of kind };
 
@@ -111,7 +111,7 @@ impl From<u8> for Operator {
     }
 }
 
-// The largest code, the number of codes, the heartbeat among them, and what stands where there is no code.
+// The largest code, the number of codes, the heartbeat among them, and the first byte that is no code.
 pub const TOP_CODE: u8 = 31;
 
 pub const CODE_COUNT: usize = 32;

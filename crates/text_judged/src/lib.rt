@@ -7,7 +7,7 @@ ghost use Rattle.text_judged.specs.Texts.{JudgedInto};
 
 use rules::{Answer, JUDGE_WORK, TREE_SIZE};
 
-// The tree block at the front of an input, or the whole of a shorter one.
+// The tree block at the front of an input, or the whole of a shorter one. The bench has the like at any size, and no contract for it.
 #[tactic(auto, using(std::proofs::lemmas::List::take_min))]
 fn front(input: &[u8]) -> &[u8]
     ensures { result.now ≡ take 512 input.now }

@@ -1,4 +1,4 @@
-// The listing of a tree's block.
+// The listing of a tree's block. A tree stays a slice of known length, as the calls lend it.
 #![tactic(auto)]
 
 ghost use Rattle.std.specs.Prelude.{◌≡◌, ◌+◌, ◌*◌, ◌≤◌, ◌<◌, length};

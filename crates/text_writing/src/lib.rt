@@ -1,5 +1,5 @@
 // Text and numbers written into lent bytes from a place on: the place after them.
-// `out` and `at` go together and stay two parameters: the functions are public, and `Wrote` names both.
+// `out` and `at` go together and stay two parameters: the functions are public, and `Wrote` names both. Nor are they `Display`: the theorems speak of lent bytes.
 #![tactic(auto)]
 
 ghost use Rattle.std.specs.Prelude.{◌+◌, ◌≤◌, ◌<◌, [], ◌∷◌, length};

@@ -1,4 +1,4 @@
-// Tree blocks: the check of a tree, one rule for a node and one for a list.
+// Tree blocks: the check of a tree, one rule for a node and one for a list. A tree stays a slice of known length, as the calls lend it.
 #![tactic(auto)]
 
 ghost use Rattle.std.specs.Prelude.{◌≡◌, ◌+◌, ◌≤◌, ◌<◌, length};

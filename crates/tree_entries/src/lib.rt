@@ -1,4 +1,4 @@
-// What an entry of a tree block tells by itself.
+// What an entry of a tree block tells by itself. A tree stays a slice of known length, as the calls lend it.
 #![tactic(auto)]
 
 ghost use Rattle.std.specs.Prelude.{◌≡◌, ◌<◌, length};
