@@ -52,14 +52,15 @@ fn nothing_new(
 }
 
 // The graph of a view's sublog.
+// Log, places and w stay parameters: those of public functions that docs/PROMISES.md names.
 pub fn graph_of(log: &[u8], places: &[u8], w: usize, v: View) -> Graph
     requires { Listed w log.now places.now }
     ensures { meant result v.keep.bits ≡ drawn (listed code_count v.keep.bits) (sublog v (episodes_of w log.now places.now)) }
 {
     let mut g = Graph::new();
     let mut first = g.starts.meet(v.keep);
-    for i in 0..places.len() / 2 {
-        let at = mine_places::place_at(places, 2 * i);
+    for place in places.chunks_exact(2) {
+        let at = mine_places::place_at(place, 0);
         let events = mine_places::events_at(log, at, w);
         if !nothing_new(events, w, v, &g.rows, first, g.ends) {
             g = mine_trails::graph_codes(events, w, v, g);

@@ -18,7 +18,7 @@ fn with_lacked(own: CodeSet, sets: &[Bits], missed: Bits) -> Bits
     requires { length sets.now ≤ code_count }
     ensures { (k : ℕ) → has result k ≡ (has missed k || lacked_by sets.now (has own.bits) k) }
 {
-    if own.bits == 0 {
+    if own.is_empty() {
         return missed;
     }
     let mut m = missed;
@@ -64,8 +64,8 @@ fn missed_of(log: &[u8], places: &[u8], w: usize, v: View, sets: &[Bits]) -> Bit
     ensures { (k : ℕ) → k < length sets.now → has result k ≡ bare_of (part_at sets.now k) (episodes_of w log.now places.now) (sight v) }
 {
     let mut m = at_first(v.bare);
-    for i in 0..places.len() / 2 {
-        let at = mine_places::place_at(places, 2 * i);
+    for place in places.chunks_exact(2) {
+        let at = mine_places::place_at(place, 0);
         let events = mine_places::events_at(log, at, w);
         m = missed_codes(events, w, v, sets, m);
     }
@@ -73,6 +73,7 @@ fn missed_of(log: &[u8], places: &[u8], w: usize, v: View, sets: &[Bits]) -> Bit
 }
 
 // The parts under a cut whose views have the empty episode: a choice and a loop make none.
+// Log, places and w stay parameters: those of public functions that docs/PROMISES.md names.
 pub fn missed_parts(
     log: &[u8],
     places: &[u8],
@@ -84,6 +85,7 @@ pub fn missed_parts(
     requires { Listed w log.now places.now × (length sets.now ≤ code_count) }
     ensures { (k : ℕ) → k < length sets.now → has result k ≡ (part_sight (op_of operator) (part_at sets.now k) (episodes_of w log.now places.now) (sight v)).bare }
 {
+    // By the cases that the definition `part_sight` goes by.
     match operator {
         Operator::Choice | Operator::Loop => 0,
         Operator::Sequence | Operator::Parallel => missed_of(log, places, w, v, sets),

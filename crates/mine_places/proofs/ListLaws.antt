@@ -1,19 +1,14 @@
--- A list of places from a byte on, and the codes of events from a byte on.
+-- A list of places, two bytes taken off at a time, and the codes of events from a byte on.
 use mathlib.Core.Path.{◌≡◌, refl, sym, ◌∙◌, ap, subst}
 use mathlib.Core.Logic.{inl, inr}
-use mathlib.Core.List.{List, [], ◌∷◌}
-use Prim.Native.Nat.{ℕ, zero, suc, ◌+◌, ◌-◌, ◌*◌, ◌/◌, ◌≤◌, ◌<◌}
+use mathlib.Core.List.{List, [], ◌∷◌, ◌++◌}
+use Prim.Native.Nat.{ℕ, zero, suc, ◌-◌, ◌*◌, ◌≤◌, ◌<◌}
 use native.Mathlib.Nat.{suc-mul}
-use native.Mathlib.Numerals.{add-one}
 use native.Mathlib.Omega.{arith}
-use lib.ListN.{length, get_or, drop, length-drop}
-use lib.Seq.{drop-cons}
+use lib.ListN.{length, drop, length-drop}
 use Rattle.rules.specs.Words.{Has}
 use Rattle.rules.specs.LogBlock.{codes_by}
 use Rattle.mine_places.specs.Places.{places_in, place_at, codes_after, codes_of, All}
-
-drop_next : (s : List ℕ) (i : ℕ) → i < length s → drop i s ≡ get_or s i 0 ∷ drop (i + 1) s
-drop_next s i h = rw (add-one, drop-cons s i 0)
 
 -- ---- all of a list
 
@@ -29,20 +24,20 @@ module _ (P : ℕ → Type 0) where
 
 -- ---- places
 
-module _ (s : List ℕ) (i : ℕ) where
-  pub places_next : i < length s / 2 → places_in (drop (2 * i) s) ≡ place_at s (2 * i) ∷ places_in (drop (2 * (i + 1)) s)
-  places_next h =
-      let e : 2 * i + 1 + 1 ≡ 2 * (i + 1) = omega arith in
-      ap places_in (drop_next s (2 * i) (omega arith) ∙ ap (λ (t : List ℕ). get_or s (2 * i) 0 ∷ t) (drop_next s (2 * i + 1) (omega arith)))
-      ∙ ap (λ (k : ℕ). place_at s (2 * i) ∷ places_in (drop k s)) e
+-- two bytes are taken off a list
+pub places_next : (left chunk later : List ℕ) → left ≡ chunk ++ later → length chunk ≡ 2 → places_in left ≡ place_at chunk 0 ∷ places_in later
+places_next left chunk later cut two = ap places_in cut ∙ go chunk two
+  where
+    go : (t : List ℕ) → length t ≡ 2 → places_in (t ++ later) ≡ place_at t 0 ∷ places_in later
+    go [] e = absurd (omega arith)
+    go (x ∷ []) e = absurd (omega arith)
+    go (x ∷ y ∷ []) e = refl
+    go (x ∷ y ∷ z ∷ t) e = absurd (omega arith)
 
-  pub places_end : length s / 2 ≤ i → places_in (drop (2 * i) s) ≡ []
-  places_end h = go (drop (2 * i) s) (length-drop (2 * i) s)
-    where
-      go : (t : List ℕ) → length t ≡ length s - 2 * i → places_in t ≡ []
-      go [] e = refl
-      go (x ∷ []) e = refl
-      go (x ∷ y ∷ t) e = absurd (omega arith)
+pub places_end : (left : List ℕ) → length left < 2 → places_in left ≡ []
+places_end [] h = refl
+places_end (x ∷ []) h = refl
+places_end (x ∷ y ∷ t) h = absurd (omega arith)
 
 -- ---- codes
 

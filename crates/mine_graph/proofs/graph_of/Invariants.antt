@@ -1,7 +1,8 @@
 use mathlib.Core.Path.{◌≡◌}
 use mathlib.Core.Bool.{◌&&◌}
-use Prim.Native.Nat.{ℕ, ◌*◌}
-use lib.ListN.{length, drop}
+use Prim.Native.Nat.{ℕ}
+use lib.ListN.{length}
+use Rattle.std.specs.Slice.Iter.{chunks_exact_rest, chunks_exact_size}
 use Rattle.rules.specs.Words.{each}
 use Rattle.rules.specs.Calls.{code_count}
 use Rattle.code_sets.specs.Bits.{has}
@@ -11,8 +12,9 @@ use Rattle.mine_views.specs.Sublogs.{sight}
 use Rattle.mine_trails.specs.Growing.{with_pieces}
 use Rattle.mine_graph.proofs.graph_of.Given as goal
 
-abbrev pub invariant-loop-i : goal.invariant-loop-i
-invariant-loop-i l = All (Recorded l.w l.log) (places_in (drop (2 * l.i) l.places))
-    × (with_pieces (sight l.v) (meant l.initial.g l.v.keep.bits) (episodes_of l.w l.log l.places) ≡ with_pieces (sight l.v) (meant l.g l.v.keep.bits) (each (episode_of l.w l.log) (places_in (drop (2 * l.i) l.places))))
+abbrev pub invariant-loop-place : goal.invariant-loop-place
+invariant-loop-place l = (chunks_exact_size l.place-iterator ≡ 2)
+    × All (Recorded l.w l.log) (places_in (chunks_exact_rest l.place-iterator))
+    × (with_pieces (sight l.v) (meant l.initial.g l.v.keep.bits) (episodes_of l.w l.log l.places) ≡ with_pieces (sight l.v) (meant l.g l.v.keep.bits) (each (episode_of l.w l.log) (places_in (chunks_exact_rest l.place-iterator))))
     × (length l.g.rows ≡ code_count)
     × ((x : ℕ) → has l.first.bits x ≡ (has l.g.starts.bits x && has l.v.keep.bits x))

@@ -1,11 +1,12 @@
 use mathlib.Core.Path.{◌≡◌}
+use borrow.Author.Rules.{rules}
 use Rattle.mine_places.specs.Places.{codes_of}
 use Rattle.mine_places.proofs.CodesLaws.{codes_left, left_first, left_turn, left_end, left_less, code_given, codes_rest}
 use Rattle.mine_root.proofs.CodeLaws.{met_first, met_next, met_end, met_quiet, met_full}
 use Rattle.mine_root.proofs.met_codes.Goals as goal
 
-pub returns-then-met : goal.returns-then-met
-returns-then-met c = met_full _ _ _ c.with_code-met.ensures c.if-met.true
+pub returns-then-eq : goal.returns-then-eq
+returns-then-eq c = met_full _ _ _ c.with_code-met.ensures (search rules)
 
 pub loop-c-init : goal.loop-c-init
 loop-c-init c = let e : codes_left c.into_iter-c-iterator.result ≡ codes_of c.args.w c.args.events.now = search left_first depth 9 in
