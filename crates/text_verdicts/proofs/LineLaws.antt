@@ -4,7 +4,8 @@ use mathlib.Core.List.{List, [], ◌∷◌, ◌++◌, append_assoc, append-nil}
 use mathlib.Core.Bool.{Bool}
 use Prim.Native.Nat.{ℕ, suc, ◌+◌, ◌-◌, ◌*◌, ◌≤◌, ◌<◌}
 use native.Mathlib.Omega.{arith}
-use lib.ListN.{length, get_or, length-append}
+use lib.ListN.{length, get_or, take, drop, length-append}
+use lib.Seq.{take-append_seam, drop-append_seam, drop-drop}
 use Rattle.rules.specs.Words.{part}
 use Rattle.rules.specs.Heartbeats.{without_heartbeats}
 use Rattle.rules.specs.Trees.{Tree, In}
@@ -18,7 +19,6 @@ use Rattle.rules.specs.declared.Verdict.{Verdict}
 use Rattle.rules.specs.declared.Verdict.TheVariants.{Fits, Misfit}
 use Rattle.rules.specs.declared.Refusal.{Refusal}
 use Rattle.rules.proofs.AnswerLaws.{given_is}
-use Rattle.block_seal.proofs.PartLaws.{get_d_part}
 use Rattle.log_episodes.proofs.EpisodeLaws.{episodes_end, episodes_next, events_codes, blocks_episodes_end, blocks_episodes_next}
 use Rattle.text_writing.specs.Writing.{Wrote}
 use Rattle.text_writing.proofs.WroteLaws.{wrote_nothing, wrote_then, wrote_most}
@@ -113,19 +113,39 @@ module _ (block : List ℕ) (place left : ℕ) {b old mid : List ℕ} {whole : L
       let v' = subst (λ (es : List (List ℕ)). Lines b whole es first number old at mid k) (episodes_end 1 block place left h) v in
       subst (λ (m : ℕ). Lines b whole [] first m old at mid k) e v'
 
+-- of a log the bytes from a place on are left
+pub record BlocksLeft (log rest : List ℕ) (base : ℕ) : Type 0 where
+  pub bytes : rest ≡ drop base log
+  pub place : base + length rest ≡ length log
+
+pub left_all : (log : List ℕ) → BlocksLeft log log 0
+left_all log = record { bytes = refl; place = omega arith }
+
+-- one block more
+module _ (log rest block after : List ℕ) (base : ℕ) (l : BlocksLeft log rest base) (cut : rest ≡ block ++ after) (size : length block ≡ 512) where
+  pub block_is : block ≡ part log base (base + 512 - base)
+  block_is =
+      let n : base + 512 - base ≡ length block = omega (arith, size) in
+      sym (take-append_seam block after) ∙ ap (λ (s : List ℕ). take (length block) s) (sym cut ∙ l.bytes) ∙ ap (λ (m : ℕ). part log base m) (sym n)
+
+  pub left_next : BlocksLeft log after (base + 512)
+  left_next = record {
+    bytes =
+        sym (drop-append_seam block after) ∙ ap (λ (s : List ℕ). drop (length block) s) (sym cut ∙ l.bytes) ∙ drop-drop (length block) base log
+        ∙ ap (λ (m : ℕ). drop m log) (let e : base + length block ≡ base + 512 = omega (arith, size) in e);
+    place = omega (arith, l.place, ap length cut, length-append block after, size);
+  }
+
 module _ (log : List ℕ) (base left : ℕ) where
-  -- one block more; x is its count
-  pub block_lines : {b old mid new : List ℕ} {whole : List (List ℕ)} {number k r : ℕ} (x : ℕ) → x ≡ get_or log base 0 → 0 < left
-      → 13 * (number + x) ≤ length old + 13
+  -- one block more
+  pub block_lines : {b old mid new : List ℕ} {whole : List (List ℕ)} {number k r : ℕ} (block : List ℕ) → block ≡ part log base (base + 512 - base) → 0 < left
+      → 13 * (number + get_or block 0 0) ≤ length old + 13
       → Lines b whole (episodes_from 1 left log base) 1 number old 0 mid k
-      → Lines b (block_episodes 1 (part log base (base + 512 - base))) [] number (number + get_or (part log base (base + 512 - base)) 0 0) mid k new r
-      → Lines b whole (episodes_from 1 (left - 1) log (base + 512)) 1 (number + x) old 0 new r
-  block_lines {b} {old} {mid} {new} {whole} {number} {k} {r} x is h room v w =
-      let block : List ℕ = part log base (base + 512 - base) in
-      let same : number + get_or block 0 0 ≡ number + x =
-      ap (λ (i : ℕ). number + i) (get_d_part log base (base + 512 - base) 0 (omega arith) ∙ ap (λ (i : ℕ). get_or log i 0) (let e : base + 0 ≡ base = omega arith in e) ∙ sym is) in
-      lines_then (omega arith) (subst (λ (es : List (List ℕ)). Lines b whole es 1 number old 0 mid k) (blocks_episodes_next 1 log base left h) v)
-      (subst (λ (m : ℕ). Lines b (block_episodes 1 block) [] number m mid k new r) same w)
+      → Lines b (block_episodes 1 block) [] number (number + get_or block 0 0) mid k new r
+      → Lines b whole (episodes_from 1 (left - 1) log (base + 512)) 1 (number + get_or block 0 0) old 0 new r
+  block_lines {b} {old} {mid} {new} {whole} {number} {k} {r} block is h room v w =
+      let met = blocks_episodes_next 1 log base left h ∙ ap (λ (s : List ℕ). block_episodes 1 s ++ episodes_from 1 (left - 1) log (base + 512)) (sym is) in
+      lines_then (omega arith) (subst (λ (es : List (List ℕ)). Lines b whole es 1 number old 0 mid k) met v) w
 
   -- every block has its lines
   pub log_lines : {b old new : List ℕ} {number r : ℕ} → left ≤ 0 → number ≤ 4081 → 53040 ≤ length old

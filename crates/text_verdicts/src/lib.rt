@@ -47,6 +47,7 @@ fn block_lines(
 {
     let mut place: usize = 1;
     let mut next = at;
+    // A place by hand: the step is the record's own length.
     for number in first..first + usize::from(block[0]) {
         let after = log_records::next_record(block, place, 1);
         next = verdict_line(tree, &block[place + 1..after], number, work, text, next);
@@ -62,17 +63,9 @@ pub fn log_lines(tree: &[u8], log: &[u8], work: &mut [u64], text: &mut [u8]) -> 
 {
     let mut number: usize = 1;
     let mut next: usize = 0;
-    for k in 0..log.len() / BLOCK_SIZE {
-        let base = k * BLOCK_SIZE;
-        next = block_lines(
-            tree,
-            &log[base..base + BLOCK_SIZE],
-            number,
-            work,
-            text,
-            next,
-        );
-        number += usize::from(log[base]);
+    for block in log.chunks_exact(BLOCK_SIZE) {
+        next = block_lines(tree, block, number, work, text, next);
+        number += usize::from(block[0]);
     }
     next
 }
