@@ -22,7 +22,6 @@ pub copy_front : (e old : List ℕ) (r : ℕ) (new : List ℕ) → Copies e old 
 copy_front e old r new k = ap (take r) k.bytes ∙ take_at (without_heartbeats e) (drop r old) r (sym k.count)
 
 module _ (e old : List ℕ) (room : length e ≤ length old) where
-
   module _ (n i : ℕ) (out : List ℕ) (k : Copied e old n i out) where
     pub copied_all : length e ≤ i → n ≤ length e → Copies e old n out
     copied_all h few =
