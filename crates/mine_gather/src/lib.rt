@@ -159,6 +159,7 @@ pub fn gather(log: &[u8], work: &mut [u8], w: usize, beats: bool) -> usize
 {
     clear_hints(work);
     let mut n: usize = 0;
+    // Blocks by number: a listed place counts from the start of the log.
     for i in 0..log.len() / BLOCK_SIZE {
         n = gather_block(log, work, n, BLOCK_SIZE * i, w, beats);
     }
