@@ -19,7 +19,7 @@ pub fn places_with(parts: Parts, codes: Bits, others: Bits) -> Bits
     let mut places: Bits = 0;
     for (k, &part) in parts.sets[..parts.n].iter().enumerate() {
         if part & codes != 0 && part & others == 0 {
-            places |= 1 << k;
+            places |= 1 << (k as u8);
         }
     }
     places

@@ -1,26 +1,29 @@
--- The last of some sets turned to a place before them, the sets from there on one place further.
-use mathlib.Core.Path.{◌≡◌, refl, sym, ◌∙◌, ap, ap₂}
-use mathlib.Core.List.{List, [], ◌∷◌, ◌++◌}
-use Prim.Native.Nat.{ℕ, ◌+◌, ◌-◌, ◌≤◌, ◌<◌}
+-- The sets from a place on, one place further.
+use mathlib.Core.Path.{◌≡◌, sym, ◌∙◌, ap, ap₂}
+use mathlib.Core.List.{List, [], ◌∷◌, ◌++◌, append_assoc}
+use Prim.Native.Nat.{ℕ, suc, ◌+◌, ◌≤◌, ◌<◌}
+use native.Mathlib.Numerals.{add-one}
 use native.Mathlib.Omega.{arith}
-use lib.ListN.{length, take, drop, length-append, length-drop}
-use lib.Seq.{take_at, drop_at}
-use borrow.Rule.Slice.PartMut.{put_mid}
-use Rattle.std.proofs.lemmas.List.{take-append-le, drop-append-le, take-take}
-use Rattle.std.proofs.lemmas.Slice.{between_is, take-put_mid}
+use lib.ListN.{length, take, drop, get_or, set, drop_of_length-le, length-take}
+use lib.Seq.{drop-cons, get_or-take, length-take-le, take_all, take-suc-set, take-set-lt, drop-set-lt}
 
--- the last of some sets turned to the front
-turned : (sets : List ℕ) (p : ℕ) → drop (length (sets ++ (p ∷ [])) - 1) (sets ++ (p ∷ [])) ++ take (length (sets ++ (p ∷ [])) - 1) (sets ++ (p ∷ [])) ≡ p ∷ sets
-turned sets p =
-    let k : length (sets ++ (p ∷ [])) - 1 ≡ length sets = omega (arith, length-append sets (p ∷ [])) in
-    rw k (ap₂ ◌++◌ (drop_at sets (p ∷ []) (length sets) refl) (take_at sets (p ∷ []) (length sets) refl))
+module _ (sets : List ℕ) (n i hand : ℕ) where
+  -- the set at i goes on, and the one in hand stands there
+  pub shift : i < n → n ≤ length sets → (all : List ℕ) → all ≡ take i (take n sets) ++ (hand ∷ drop i (take n sets)) →
+      all ≡ take (i + 1) (take n (set sets i hand)) ++ (get_or sets i 0 ∷ drop (i + 1) (take n (set sets i hand)))
+  shift l room all e =
+      let P : List ℕ = take n sets in
+      let low : i < length P = omega (arith, length-take-le n sets room) in
+      let w : take n (set sets i hand) ≡ set P i hand = take-set-lt n sets i hand l in
+      e ∙ ap (λ (xs : List ℕ). take i P ++ (hand ∷ xs)) (drop-cons P i 0 low ∙ ap (λ (v : ℕ). v ∷ drop (suc i) P) (get_or-take n sets i 0 l))
+      ∙ sym (append_assoc (take i P) (hand ∷ []) (get_or sets i 0 ∷ drop (suc i) P))
+      ∙ ap₂ (λ (xs ys : List ℕ). xs ++ (get_or sets i 0 ∷ ys)) (sym (take-suc-set P i hand low)) (sym (drop-set-lt (suc i) P i hand (omega arith)))
+      ∙ ap (λ (k : ℕ). take k (set P i hand) ++ (get_or sets i 0 ∷ drop k (set P i hand))) (sym (add-one i))
+      ∙ ap (λ (xs : List ℕ). take (i + 1) xs ++ (get_or sets i 0 ∷ drop (i + 1) xs)) (sym w)
 
--- THEOREM: a set put behind others and turned to its place
-pub inserted_is : (front sets new : List ℕ) (n at p : ℕ) → at ≤ n → length front ≡ n → n < length sets → take (n + 1) sets ≡ front ++ (p ∷ []) →
-    new ≡ drop (length (take (n + 1 - at) (drop at sets)) - 1) (take (n + 1 - at) (drop at sets)) ++ take (length (take (n + 1 - at) (drop at sets)) - 1) (take (n + 1 - at) (drop at sets)) →
-    take (n + 1) (put_mid at (n + 1 - at) sets new) ≡ take at front ++ (p ∷ drop at front)
-inserted_is front sets new n at p l size room e turn =
-    let part : take (n + 1 - at) (drop at sets) ≡ drop at front ++ (p ∷ []) = between_is sets at (n + 1) ∙ ap (drop at) e ∙ drop-append-le at front (p ∷ []) (omega arith) in
-    let is : new ≡ p ∷ drop at front = turn ∙ rw part (turned (drop at front) p) in
-    take-put_mid at (n + 1 - at) sets new (n + 1) (omega (arith, ap length is, length-drop at front)) (omega arith)
-    ∙ ap₂ ◌++◌ (sym (take-take at (n + 1) sets (omega arith)) ∙ ap (take at) e ∙ take-append-le at front (p ∷ []) (omega arith)) is
+  -- the last one goes behind all
+  pub shifted : n ≤ i → (all : List ℕ) → all ≡ take i (take n sets) ++ (hand ∷ drop i (take n sets)) → take n sets ++ (hand ∷ []) ≡ all
+  shifted l all e =
+      let P : List ℕ = take n sets in
+      let s : length P ≤ i = omega (arith, length-take n sets) in
+      sym (e ∙ ap₂ (λ (xs ys : List ℕ). xs ++ (hand ∷ ys)) (take_all i P s) (drop_of_length-le P {i = i} s))

@@ -10,13 +10,13 @@ use lib.Seq.{drop-cons, get_or-take, length-take-le, take-suc-set, take-set-lt, 
 use Rattle.rules.specs.Words.{push, keep}
 
 -- the sets from i on, where i is below their number
-rest : (sets : List ℕ) (n i : ℕ) → i < n → n ≤ length sets → drop i (take n sets) ≡ get_or sets i 0 ∷ drop (i + 1) (take n sets)
+pub rest : (sets : List ℕ) (n i : ℕ) → i < n → n ≤ length sets → drop i (take n sets) ≡ get_or sets i 0 ∷ drop (i + 1) (take n sets)
 rest sets n i low room =
     drop-cons (take n sets) i 0 (omega (arith, length-take-le n sets room))
     ∙ ap (λ (v : ℕ). v ∷ drop (suc i) (take n sets)) (get_or-take n sets i 0 low) ∙ ap (λ (k : ℕ). get_or sets i 0 ∷ drop k (take n sets)) (sym (add-one i))
 
 -- and where it is not
-rest_none : (sets : List ℕ) (n i : ℕ) → n ≤ i → drop i (take n sets) ≡ []
+pub rest_none : (sets : List ℕ) (n i : ℕ) → n ≤ i → drop i (take n sets) ≡ []
 rest_none sets n i l = drop_of_length-le (take n sets) {i = i} (omega (arith, length-take n sets))
 
 module _ (f : ℕ → Bool) (sets : List ℕ) (n k i : ℕ) (all : List ℕ) where

@@ -63,10 +63,14 @@ pub fn inserted(mut parts: Parts, at: usize, part: Bits) -> Parts
     requires { (parts.n < code_count) × (at ≤ parts.n) }
     ensures { (result.n ≡ parts.n + 1) × (sets_of result ≡ take at (sets_of parts) ++ (part ∷ drop at (sets_of parts))) }
 {
-    let last = parts.n;
-    parts = parts.with(part);
-    parts.sets[at..=last].rotate_right(1);
-    parts
+    // A loop by hand of what `rotate_right` does: for that the archive would ask for one name more, memmove.
+    let mut hand = part;
+    for i in at..parts.n {
+        let next = parts.sets[i];
+        parts.sets[i] = hand;
+        hand = next;
+    }
+    parts.with(hand)
 }
 
 // The codes that stand in no part.

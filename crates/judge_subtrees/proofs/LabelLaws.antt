@@ -31,7 +31,7 @@ any_append n (suc m) p =
 
 module _ (b : List ℕ) where
   -- entry v is a leaf c
-  abbrev leaf_at : ℕ → ℕ → Bool
+  abbrev pub leaf_at : ℕ → ℕ → Bool
   leaf_at c v = eqb (kind_at b v) 2 && (ltb (argument_at b v) code_count && eqb c (argument_at b v))
 
   labelled_append : (v n m c : ℕ) → labelled b v (n + m) c ≡ (labelled b v n c || labelled b (v + n) m c)

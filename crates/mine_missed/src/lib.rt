@@ -24,7 +24,7 @@ fn with_lacked(own: CodeSet, sets: &[Bits], missed: Bits) -> Bits
     let mut m = missed;
     for (k, &part) in sets.iter().enumerate() {
         if part & own.bits == 0 {
-            m |= 1 << k;
+            m |= 1 << (k as u8);
         }
     }
     m

@@ -2,10 +2,12 @@
 use mathlib.Core.Path.{◌≡◌, refl, sym, ◌∙◌, ap, subst}
 use mathlib.Core.Logic.{inl, inr}
 use mathlib.Core.List.{List, [], ◌∷◌, ◌++◌}
-use Prim.Native.Nat.{ℕ, zero, suc, ◌-◌, ◌*◌, ◌≤◌, ◌<◌}
+use Prim.Native.Nat.{ℕ, zero, suc, ◌+◌, ◌-◌, ◌*◌, ◌≤◌, ◌<◌}
 use native.Mathlib.Nat.{suc-mul}
 use native.Mathlib.Omega.{arith}
-use lib.ListN.{length, drop, length-drop}
+use lib.ListN.{length, get_or, drop, length-drop, drop_of_length-le}
+use lib.Seq.{drop-drop}
+use Rattle.std.proofs.lemmas.List.{drop_more}
 use Rattle.rules.specs.Words.{Has}
 use Rattle.rules.specs.LogBlock.{codes_by}
 use Rattle.mine_places.specs.Places.{places_in, place_at, codes_after, codes_of, All}
@@ -55,6 +57,18 @@ module _ (w : ℕ) (some : 1 ≤ w) where
       go (suc v) h =
           let e : suc v - 1 ≡ v = omega arith in
           ap (λ (k : ℕ). x ∷ codes_after (suc v) k s) e ∙ ap (◌∷◌ x) (over (suc v) v s)
+
+  -- from a byte of an event on: its code, and those of the events after it
+  module _ (s : List ℕ) (i : ℕ) where
+    pub codes_next : i < length s → codes_of w (drop i s) ≡ get_or s i 0 ∷ codes_of w (drop (i + w) s)
+    codes_next h =
+        let here = drop_more s i 0 h in
+        ap (codes_of w) here ∙ first (get_or s i 0) (drop (i + 1) s)
+        ∙ ap (λ (t : List ℕ). get_or s i 0 ∷ codes_of w (drop w t)) (sym here)
+        ∙ ap (λ (t : List ℕ). get_or s i 0 ∷ codes_of w t) (drop-drop w i s)
+
+    pub codes_end : length s ≤ i → codes_of w (drop i s) ≡ []
+    codes_end h = ap (codes_of w) (drop_of_length-le s h)
 
   -- the codes of n events
   pub codes_counted : (n : ℕ) (s : List ℕ) → length s ≡ n * w → codes_by n w s ≡ codes_of w s

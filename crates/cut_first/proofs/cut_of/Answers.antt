@@ -26,7 +26,7 @@ pub returns-then-is_some : goal.returns-then-is_some
 returns-then-is_some c = let cut = c.cut_without_loop-cut in cut_some cut.result (sym c.is_some.ensures ∙ c.if-is_some.true) _ _ cut.ensures
 
 pub returns-then-parts-ge2 : goal.returns-then-parts-ge2
-returns-then-parts-ge2 c = let r = (goal.at.returns-then-parts-ge2 c).After-loop_parts-parts in first_loop _ _ (later r) _ (loops r) c.if-parts-ge2.true
+returns-then-parts-ge2 c = let r = (goal.at.returns-then-parts-ge2 c).After-loop_parts-parts in first_loop _ _ (later r) _ (loops r) (omega (arith, c.if-parts-ge2.true))
 
 pub returns : goal.returns
-returns c = let r = (goal.at.returns c).After-loop_parts-parts in none_of_four _ _ (later r) _ (loops r) c.if-parts-ge2.false
+returns c = let r = (goal.at.returns c).After-loop_parts-parts in none_of_four _ _ (later r) _ (loops r) (omega (arith, c.if-parts-ge2.false))

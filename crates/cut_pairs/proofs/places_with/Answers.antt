@@ -25,11 +25,11 @@ loop-k-preserved c =
     let t : ℕ → Bool = λ x. meets a.codes (get_or sets x 0) && not (meets a.others (get_or sets x 0)) in
     elim c.if-part-codes-ne0.branch [
       | then-part-codes-ne0+then-part-others-eq0 w ↦
-          rw w.places-is (places_more code_count t l.places l.k (omega arith) (ap₂ (λ (x y : Bool). x && not y) (meets_on a.codes p w.if-part-codes-ne0.true) (meets_off a.others p w.if-part-others-eq0.true)) l.invariant)
+          rw w.places-is (places_more code_count t l.places l.k (omega arith) (ap₂ (λ (x y : Bool). x && not y) (meets_on a.codes p w.if-part-codes-ne0.true) (meets_off a.others p (omega (arith, w.if-part-others-eq0.true)))) l.invariant)
       | else-part-codes-ne0 w ↦ rw w.places-is
           (elim w.else-part-codes-ne0.branch [
             | else-part-codes-ne0-via-then-part-codes-ne0+else-part-others-eq0 v ↦
-                places_skip t l.places l.k (ap₂ (λ (x y : Bool). x && not y) (meets_on a.codes p v.if-part-codes-ne0.true) (meets_on a.others p v.if-part-others-eq0.false)) l.invariant
+                places_skip t l.places l.k (ap₂ (λ (x y : Bool). x && not y) (meets_on a.codes p v.if-part-codes-ne0.true) (meets_on a.others p (λ e. v.if-part-others-eq0.false (omega (arith, e))))) l.invariant
             | else-part-codes-ne0-via-else-part-codes-ne0 v ↦ places_skip t l.places l.k (ap (λ (x : Bool). x && not (meets a.others p)) (meets_off a.codes p v.if-part-codes-ne0.false)) l.invariant
           ])
     ]
