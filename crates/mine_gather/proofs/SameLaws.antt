@@ -1,11 +1,12 @@
--- Two iterators whose items are the same one after another: the lists that they give are the same.
+-- Two records compared: iterators whose items are the same one after another, and codes one by one.
 use mathlib.Core.Path.{◌≡◌, refl, sym, ap, subst, ◌∙◌}
-use mathlib.Core.Logic.{◌⊎◌, inl, inr}
 use mathlib.Core.List.{List, [], ◌∷◌, map}
 use mathlib.Core.Bool.{Bool, true, false, true≢false, cond, not, ◌&&◌}
-use Prim.Native.Nat.{ℕ, zero, suc, ◌-◌}
+use Prim.Native.Nat.{ℕ, ◌+◌, ◌*◌, ◌≤◌, ◌<◌}
+use native.Mathlib.Nat.{mul-le-mul_right, suc-mul}
+use native.Mathlib.Numerals.{add-one}
 use native.Mathlib.Omega.{arith}
-use lib.ListN.{length}
+use lib.ListN.{length, get_or, drop}
 use lib.Dec.{eqb}
 use denote.Ref.{Bor}
 use borrow.Author.Tests.{eqb-true}
@@ -15,9 +16,12 @@ use Rattle.std.specs.List.{AllZip, filter}
 use Rattle.std.specs.Iterator.{Yields, YieldsThen, ComparesItemsByEq}
 use Rattle.std.proofs.lemmas.Iterator.{YieldsList, items_from_drains}
 use Rattle.rules.specs.Words.{push}
+use Rattle.std.specs.Int.{div_ceil}
+use Rattle.std.proofs.lemmas.Grind.{div_ceil_times}
 use Rattle.rules.specs.Heartbeats.{heartbeat, without_heartbeats}
 use Rattle.rules.proofs.BoolLaws.{and_cases}
-use Rattle.mine_places.specs.Places.{codes_after, codes_of}
+use Rattle.mine_places.specs.Places.{codes_of}
+use Rattle.mine_places.proofs.ListLaws.{codes_next, codes_end}
 
 abbrev Equal : Bor ℕ → Bor ℕ → Bool
 Equal x y = eqb x.now y.now
@@ -49,36 +53,29 @@ filter_without (c ∷ codes) = by (not (eqb c heartbeat)) (filter_without codes)
     by true e = ap (λ (l : List ℕ). c ∷ l) e
     by false e = e
 
-none_both : (xs ys : List ℕ) → xs ≡ [] → length ys ≡ 0 → xs ≡ ys
-none_both xs [] e l = e
-none_both xs (y ∷ ys) e l = absurd (omega arith)
+-- the place of event i, of w bytes each
+next_place : (i w : ℕ) → (i + 1) * w ≡ i * w + w
+next_place i w = ap (λ (k : ℕ). k * w) (add-one i) ∙ suc-mul i w
 
--- records of one length have as many codes
-pub same_many : (w k : ℕ) (xs ys : List ℕ) → length xs ≡ length ys → length (codes_after w k xs) ≡ length (codes_after w k ys)
-same_many w k [] [] e = refl
-same_many w k [] (y ∷ ys) e = absurd (omega arith)
-same_many w k (x ∷ xs) [] e = absurd (omega arith)
-same_many w zero (x ∷ xs) (y ∷ ys) e = omega (arith, same_many w (w - 1) xs ys (omega arith))
-same_many w (suc k) (x ∷ xs) (y ∷ ys) e = same_many w k xs ys (omega arith)
+module _ (w : ℕ) (some : 1 ≤ w) (a : List ℕ) (i : ℕ) where
+  pub event_inside : i < div_ceil (length a) w → i * w < length a
+  event_inside h = omega (arith, mul-le-mul_right {m = i + 1} {n = div_ceil (length a) w} w (omega arith), next_place i w, (div_ceil_times (length a) w some).1)
 
--- two walks side by side, over the same number of codes: as far as they have come, they are the same where what is left of them is
-module _ (w : ℕ) (a b : List ℕ) where
-  pub record Beside (same : Bool) (xs ys : List ℕ) : Type 0 where
-    pub many : length xs ≡ length ys
-    pub so_far : same ≡ true → xs ≡ ys → codes_of w a ≡ codes_of w b
+  pub event_past : div_ceil (length a) w ≤ i → length a ≤ i * w
+  event_past h = omega (arith, mul-le-mul_right {m = div_ceil (length a) w} {n = i} w h, (div_ceil_times (length a) w some).0)
 
-  pub beside_first : (xs ys : List ℕ) → length a ≡ length b → xs ≡ codes_of w a → ys ≡ codes_of w b → Beside true xs ys
-  beside_first xs ys l e f = record {
-    many = ap length e ∙ same_many w 0 a b l ∙ sym (ap length f);
-    so_far = λ t g. sym e ∙ g ∙ f;
-  }
+-- records whose codes are compared one by one: the same where those from event i on are
+module _ (w : ℕ) (some : 1 ≤ w) (a b : List ℕ) (i : ℕ) (same : Bool) where
+  abbrev pub SameFrom : Type 0
+  SameFrom = same ≡ true → codes_of w (drop (i * w) a) ≡ codes_of w (drop (i * w) b) → codes_of w a ≡ codes_of w b
 
-  pub beside_turn : (same : Bool) (x y : ℕ) (xs ys left rest : List ℕ) → Beside same xs ys → xs ≡ x ∷ left → ys ≡ y ∷ rest → Beside (same && eqb x y) left rest
-  beside_turn same x y xs ys left rest r e f = record {
-    many = omega (arith, r.many, ap length e, ap length f);
-    so_far = λ t g. let both = and_cases same (eqb x y) t in r.so_far both.0 (e ∙ (λ i. eqb-true x y both.1 i ∷ g i) ∙ sym f);
-  }
+  module _ (so_far : SameFrom) where
+    pub same_turn : i * w < length a → i * w < length b → (same && eqb (get_or a (i * w) 0) (get_or b (i * w) 0)) ≡ true →
+        codes_of w (drop ((i + 1) * w) a) ≡ codes_of w (drop ((i + 1) * w) b) → codes_of w a ≡ codes_of w b
+    same_turn h g t rest =
+        let both = and_cases same (eqb (get_or a (i * w) 0) (get_or b (i * w) 0)) t in
+        let later : codes_of w (drop (i * w + w) a) ≡ codes_of w (drop (i * w + w) b) = subst (λ (k : ℕ). codes_of w (drop k a) ≡ codes_of w (drop k b)) (next_place i w) rest in
+        so_far both.0 (codes_next w some a (i * w) h ∙ (λ k. eqb-true (get_or a (i * w) 0) (get_or b (i * w) 0) both.1 k ∷ later k) ∙ sym (codes_next w some b (i * w) g))
 
-  pub beside_end : (same : Bool) (xs ys : List ℕ) → Beside same xs ys → (xs ≡ []) ⊎ (ys ≡ []) → same ≡ true → codes_of w a ≡ codes_of w b
-  beside_end same xs ys r (inl e) t = r.so_far t (none_both xs ys e (omega (arith, sym r.many, ap length e)))
-  beside_end same xs ys r (inr e) t = r.so_far t (sym (none_both ys xs e (omega (arith, r.many, ap length e))))
+    pub same_end : length a ≤ i * w → length b ≤ i * w → same ≡ true → codes_of w a ≡ codes_of w b
+    same_end h g t = so_far t (codes_end w some a (i * w) h ∙ sym (codes_end w some b (i * w) g))

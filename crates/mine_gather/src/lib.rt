@@ -48,7 +48,7 @@ fn slot_of(events: &[u8], w: usize, beats: bool) -> usize
     (number as usize) % SLOTS
 }
 
-// Have two records the same codes? Every code is looked at, which takes fewer instructions than to stop at the first that differs.
+// Have two records the same codes? Where the first is, every code is looked at, which takes fewer instructions than to stop at the first that differs.
 fn same_codes(a: &[u8], b: &[u8], w: usize) -> bool
     requires { Events w a.now × Events w b.now }
     ensures { result ≡ true → codes_of w a.now ≡ codes_of w b.now }
@@ -56,9 +56,15 @@ fn same_codes(a: &[u8], b: &[u8], w: usize) -> bool
     if a.len() != b.len() {
         return false;
     }
+    if a.is_empty() {
+        return true;
+    }
+    if a[0] != b[0] {
+        return false;
+    }
     let mut same = true;
-    for (x, y) in a.iter().step_by(w).zip(b.iter().step_by(w)) {
-        same &= x == y;
+    for i in 0..a.len().div_ceil(w) {
+        same &= a[i * w] == b[i * w];
     }
     same
 }
@@ -159,7 +165,8 @@ fn clear_hints(work: &mut [u8])
 }
 
 // Lists the places of a sound log's distinct episodes, and answers how many. `beats` tells to compare events alone; otherwise records are compared as they are stored, which
-// takes less, and lists an episode once for each way that heartbeats stand in it.
+// takes less, and lists an episode once for each way that heartbeats stand in it. Each of its two calls is compiled with its own `beats`: one function for both took up to a third more instructions.
+#[inline(always)]
 pub fn gather(log: &[u8], work: &mut [u8], w: usize, beats: bool) -> usize
     requires { (1 ≤ w) × (w ≤ 3) × (length log.now ≤ 8192) × (16384 ≤ length work.old) × Given (log_sound w log.now) }
     ensures { (length work.new ≡ length work.old) × Lists w log.now result work.new }

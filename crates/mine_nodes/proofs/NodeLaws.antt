@@ -26,8 +26,10 @@ use Rattle.mine_views.specs.Sublogs.{Sight, shown, sight, sublog, Tight, part_si
 use Rattle.mine_views.proofs.TightLaws.{tight_below, part_shows, part_tight, part_tree}
 use Rattle.mine_bases.specs.Writing.{laid, WroteTree}
 use Rattle.mine_plan.specs.declared.Base.{Base}
-use Rattle.mine_plan.specs.declared.Plan.TheVariants.{Uncut, Cut}
-use Rattle.mine_plan.specs.Plans.{base_tree, Planned}
+use Rattle.mine_plan.specs.declared.Made.{Made}
+use Rattle.mine_plan.specs.declared.Made.TheVariants.{Uncut, Cut}
+use Rattle.mine_plan.specs.declared.Plan.{Plan}
+use Rattle.mine_plan.specs.Plans.{base_tree, made_shape, Told, Planned}
 use Rattle.mine_nodes.specs.Ready.{Ready}
 use Rattle.mine_bases.proofs.WritingLaws.{laid_nil, laid_before, wrote_length, wrote_next}
 use Rattle.mine_plan.proofs.PlanLaws.{tree_base, tree_cut}
@@ -73,8 +75,11 @@ pub record Growing (l : Log) (v : View) (o : Op) (n : ℕ) (sets : List ℕ) (at
   pub count : at + 1 + sizes (trees_of l v o (rest_of n sets 0)) ≡ next + sizes (trees_of l v o (rest_of n sets i))
 
 -- a tree that has no cut
-pub node_base : (l : Log) (v : View) → Tight code_count (sight v) l → (b : Base) → Planned l v (Uncut b) → base_tree b (listed code_count v.keep.bits) ≡ mined code_count (sublog v l)
-node_base l v k b plans = sym (tree_base code_count (sublog v l) (tight_below code_count (sight v) l k) b (listed code_count v.keep.bits) (plans.makes k))
+pub node_base : (l : Log) (v : View) → Tight code_count (sight v) l → (plan : Plan) → Planned l v plan → (b : Base) → plan.made ≡ Uncut b →
+    base_tree b (listed code_count v.keep.bits) ≡ mined code_count (sublog v l)
+node_base l v k plan plans b e =
+    let codes = listed code_count v.keep.bits in
+    sym (tree_base code_count (sublog v l) (tight_below code_count (sight v) l k) b codes (plans.makes k ∙ ap (λ (m : Made). made_shape m codes (rest_of plan.n plan.sets 0)) e))
 
 -- a view's own codes are those that occur
 pub tight_listed : (l : Log) (v : View) → Tight code_count (sight v) l → listed code_count v.keep.bits ≡ occurring code_count (sublog v l)
@@ -82,22 +87,29 @@ unfolding listed
 tight_listed l v k = sym k.occurs
 
 -- a view that may be mined, whose plan is a cut
-pub record CutNode (l : Log) (v : View) (old : List ℕ) (at : ℕ) (operator : Operator) (n : ℕ) (sets : List ℕ) (missed : ℕ) : Type 0 where
+pub record CutNode (l : Log) (v : View) (old : List ℕ) (at : ℕ) (plan : Plan) (operator : Operator) : Type 0 where
   pub ready : Ready l v old at
-  pub plans : Planned l v (Cut operator n sets missed)
+  pub plans : Planned l v plan
+  pub is : plan.made ≡ Cut operator
 
-module _ {l : Log} {v : View} {old : List ℕ} {at : ℕ} {operator : Operator} {n : ℕ} {sets : List ℕ} {missed : ℕ} (here : CutNode l v old at operator n sets missed) where
+module _ {l : Log} {v : View} {old : List ℕ} {at : ℕ} {plan : Plan} {operator : Operator} (here : CutNode l v old at plan operator) where
   abbrev o : Op
   o = op_of operator
 
+  abbrev n : ℕ
+  n = plan.n
+
+  abbrev sets : List ℕ
+  sets = plan.sets
+
   room : n ≤ length sets
-  room = here.plans.told.room
+  room = here.plans.room
 
   tight : Tight code_count (sight v) l
   tight = here.ready.tight
 
   cuts : shape code_count (sublog v l) ≡ cut o (rest_of n sets 0)
-  cuts = here.plans.makes tight
+  cuts = here.plans.makes tight ∙ ap (λ (m : Made). made_shape m (listed code_count v.keep.bits) (rest_of n sets 0)) here.is
 
   node_is : mined code_count (sublog v l) ≡ node o (trees_of l v o (rest_of n sets 0))
   node_is = tree_cut code_count (sublog v l) (tight_below code_count (sight v) l tight) o (rest_of n sets 0) cuts
@@ -110,9 +122,11 @@ module _ {l : Log} {v : View} {old : List ℕ} {at : ℕ} {operator : Operator} 
 
   -- the i-th part, where w is its view
   module _ (i : ℕ) (h : i < n) (w : View)
-      (call : eqb (missed / 2 ^ i % 2) 1 ≡ (part_sight o (listed code_count (get_or sets i 0)) l (sight v)).bare → sight w ≡ part_sight o (listed code_count (get_or sets i 0)) l (sight v)) where
+      (call : eqb (plan.missed / 2 ^ i % 2) 1 ≡ (part_sight o (listed code_count (get_or sets i 0)) l (sight v)).bare → sight w ≡ part_sight o (listed code_count (get_or sets i 0)) l (sight v)) where
     sees : sight w ≡ part_sight o (listed code_count (get_or sets i 0)) l (sight v)
-    sees = call (missed_bit missed i (part_sight o (listed code_count (get_or sets i 0)) l (sight v)).bare (here.plans.told.told i h))
+    sees =
+        let told = subst (Told l v plan) here.is here.plans.told in
+        call (missed_bit plan.missed i (part_sight o (listed code_count (get_or sets i 0)) l (sight v)).bare (told i h))
 
     in_cut : Has (listed code_count (get_or sets i 0)) (parts_of o (graph code_count (sublog v l)))
     in_cut = subst (Has (listed code_count (get_or sets i 0))) (cut_taken code_count (sublog v l) (tight_below code_count (sight v) l tight) o (rest_of n sets 0) cuts).0 (rest_has n sets room i h)

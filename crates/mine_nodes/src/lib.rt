@@ -9,7 +9,7 @@ ghost use Rattle.mine_bases.specs.Writing.{WroteTree};
 ghost use Rattle.mine_nodes.specs.Ready.{Ready};
 
 use code_sets::CodeSet;
-use mine_plan::Plan;
+use mine_plan::Made;
 use mine_views::View;
 
 // Writes the tree of a view's sublog from an entry on, and answers the next entry.
@@ -17,24 +17,26 @@ pub fn mine_node(log: &[u8], places: &[u8], w: usize, tree: &mut [u8], v: View, 
     requires { Listed w log.now places.now × Ready (episodes_of w log.now places.now) v tree.old at }
     ensures { WroteTree (mined code_count (sublog v (episodes_of w log.now places.now))) at tree.old result tree.new }
 {
-    match mine_plan::planned(log, places, w, v) {
-        Plan::Uncut(base) => mine_bases::base(tree, at, base, v.keep),
-        Plan::Cut {
-            operator,
-            n,
-            sets,
-            missed,
-        } => {
-            let mut next = at + 1;
-            for i in 0..n {
-                let part = CodeSet {
-                    bits: sets[i as usize],
-                };
-                let u = mine_views::part_of(v, operator, part, (missed >> i) % 2 == 1);
-                next = mine_node(log, places, w, tree, u, next);
-            }
-            tree_writing::put(tree, at, u8::from(operator), n, mine_bases::byte(next - at));
-            next
-        }
+    // Kept whole, as taken apart it would stand on the stack of every level twice.
+    let plan = mine_plan::planned(log, places, w, v);
+    let operator = match plan.made {
+        Made::Uncut(base) => return mine_bases::base(tree, at, base, v.keep),
+        Made::Cut(operator) => operator,
+    };
+    let mut next = at + 1;
+    for i in 0..plan.n {
+        let part = CodeSet {
+            bits: plan.sets[i as usize],
+        };
+        let u = mine_views::part_of(v, operator, part, (plan.missed >> i) % 2 == 1);
+        next = mine_node(log, places, w, tree, u, next);
     }
+    tree_writing::put(
+        tree,
+        at,
+        u8::from(operator),
+        plan.n,
+        mine_bases::byte(next - at),
+    );
+    next
 }

@@ -12,8 +12,9 @@ use Rattle.mine_views.specs.declared.View.{View}
 use Rattle.mine_views.specs.Sublogs.{sight, sublog, Tight, part_sight}
 use Rattle.mine_plan.specs.declared.Base.{Base}
 use Rattle.mine_plan.specs.declared.Base.TheVariants.{Silent, Leaf, Flower}
+use Rattle.mine_plan.specs.declared.Made.{Made}
+use Rattle.mine_plan.specs.declared.Made.TheVariants.{Uncut, Cut}
 use Rattle.mine_plan.specs.declared.Plan.{Plan}
-use Rattle.mine_plan.specs.declared.Plan.TheVariants.{Uncut, Cut}
 
 -- one code, and it never follows itself
 abbrev pub lone : Rel → List ℕ → Bool
@@ -32,28 +33,26 @@ base_tree Silent cs = silent
 base_tree Leaf cs = leaf (head_of cs)
 base_tree Flower cs = flower_of cs
 
--- what is made of these codes
-abbrev pub made_shape : Plan → List ℕ → Shape
-made_shape (Uncut b) cs = base_shape b cs
-made_shape (Cut o n sets missed) cs = cut (op_of o) (each (listed code_count) (take n sets))
+-- what is made of these codes, where the parts of a cut are ps
+abbrev pub made_shape : Made → List ℕ → List (List ℕ) → Shape
+made_shape (Uncut b) cs ps = base_shape b cs
+made_shape (Cut o) cs ps = cut (op_of o) ps
 
--- the parts of a cut are the first n sets, and those whose views have the empty episode are told by number
-pub record Parted (l : Log) (v : View) (o : Operator) (n : ℕ) (sets : List ℕ) (missed : ℕ) : Type 0 where
-  pub few : n ≤ code_count
-  pub room : n ≤ length sets
-  pub told : (k : ℕ) → k < n → has missed k ≡ (part_sight (op_of o) (listed code_count (get_or sets k 0)) l (sight v)).bare
-
--- what a plan tells of its parts
-abbrev pub Told : Log → View → Plan → Type 0
-Told l v (Uncut b) = Unit {0}
-Told l v (Cut o n sets missed) = Parted l v o n sets missed
+-- the parts of a cut whose views have the empty episode are told by number
+abbrev pub Told : Log → View → Plan → Made → Type 0
+Told l v r (Uncut b) = Unit {0}
+Told l v r (Cut o) = (k : ℕ) → k < r.n → has r.missed k ≡ (part_sight (op_of o) (listed code_count (get_or r.sets k 0)) l (sight v)).bare
 
 -- a cut's plan
-abbrev pub CutPlan : Log → View → Operator → Parts → Plan → Type 0
-CutPlan l v o parts (Uncut b) = ⊥
-CutPlan l v o parts (Cut p n sets missed) = (p ≡ o) × (n ≡ parts.n) × (sets ≡ parts.sets) × Parted l v p n sets missed
+pub record CutPlan (l : Log) (v : View) (o : Operator) (parts : Parts) (r : Plan) : Type 0 where
+  pub is : r.made ≡ Cut o
+  pub count : r.n ≡ parts.n
+  pub same : r.sets ≡ parts.sets
+  pub told : Told l v r (Cut o)
 
 -- a tight view's plan is the shape of its sublog
 pub record Planned (l : Log) (v : View) (r : Plan) : Type 0 where
-  pub told : Told l v r
-  pub makes : Tight code_count (sight v) l → shape code_count (sublog v l) ≡ made_shape r (listed code_count v.keep.bits)
+  pub few : r.n ≤ code_count
+  pub room : r.n ≤ length r.sets
+  pub told : Told l v r r.made
+  pub makes : Tight code_count (sight v) l → shape code_count (sublog v l) ≡ made_shape r.made (listed code_count v.keep.bits) (each (listed code_count) (take r.n r.sets))

@@ -22,17 +22,20 @@ pub enum Base {
     Flower,
 }
 
-// A cut's parts are the first n sets; `missed` has the numbers of those whose views have the empty episode.
-// A fixed array with a number, which is a byte: there is no heap, and a smaller plan is a smaller frame of `mine_node`, which calls itself.
 #[derive(Clone, Copy, Debug, PartialEq, Eq)]
-pub enum Plan {
+pub enum Made {
     Uncut(Base),
-    Cut {
-        operator: Operator,
-        n: u8,
-        sets: [Bits; CODE_COUNT],
-        missed: Bits,
-    },
+    Cut(Operator),
+}
+
+// A fixed array with a number, which is a byte: there is no heap, and a smaller plan is a smaller frame of `mine_node`, which calls itself.
+// A cut's parts are the first n sets; `missed` has the numbers of those whose views have the empty episode.
+#[derive(Clone, Copy, Debug, PartialEq, Eq)]
+pub struct Plan {
+    pub made: Made,
+    pub n: u8,
+    pub sets: [Bits; CODE_COUNT],
+    pub missed: Bits,
 }
 
 // Has the graph one code that never follows itself?
@@ -49,6 +52,18 @@ fn alone(g: Graph, keep: CodeSet) -> bool
     !row.has(c)
 }
 
+// The plan of a sublog that has no cut.
+fn uncut(base: Base) -> Plan
+    ensures { (result.made ≡ Made.Uncut base) × (result.n ≡ 0) }
+{
+    Plan {
+        made: Made::Uncut(base),
+        n: 0,
+        sets: [0; CODE_COUNT],
+        missed: 0,
+    }
+}
+
 // A cut as a plan: the parts that a sub-episode lacks are looked for.
 fn cut_plan(log: &[u8], places: &[u8], w: usize, v: View, cut: Cut) -> Plan
     requires { Listed w log.now places.now × (cut.parts.n ≤ code_count) }
@@ -56,8 +71,8 @@ fn cut_plan(log: &[u8], places: &[u8], w: usize, v: View, cut: Cut) -> Plan
 {
     let Cut { operator, parts } = cut;
     let own = &parts.sets[..parts.n];
-    Plan::Cut {
-        operator,
+    Plan {
+        made: Made::Cut(operator),
         n: parts.n as u8,
         sets: parts.sets,
         missed: mine_missed::missed_parts(log, places, w, v, operator, own),
@@ -71,17 +86,17 @@ pub fn planned(log: &[u8], places: &[u8], w: usize, v: View) -> Plan
 {
     let View { keep, bare, .. } = v;
     if keep.is_empty() {
-        return Plan::Uncut(Base::Silent);
+        return uncut(Base::Silent);
     }
     if bare {
-        return Plan::Uncut(Base::Flower);
+        return uncut(Base::Flower);
     }
     let g = mine_graph::graph_of(log, places, w, v);
     if alone(g, keep) {
-        return Plan::Uncut(Base::Leaf);
+        return uncut(Base::Leaf);
     }
     match cut_first::cut_of(g, keep) {
         Some(cut) => cut_plan(log, places, w, v, cut),
-        None => Plan::Uncut(Base::Flower),
+        None => uncut(Base::Flower),
     }
 }
