@@ -38,9 +38,9 @@ fn word(line: &[u8]) -> &[u8] {
     front(line, 3)
 }
 
-// Whether all of a part are x.
+// Whether all of a part are x. Each is looked at, many at a time: a search that stops at the first other one goes one by one.
 fn every<T: Copy + PartialEq>(s: &[T], x: T) -> bool {
-    s.iter().all(|&y| y == x)
+    s.iter().fold(true, |so_far, &y| so_far & (y == x))
 }
 
 // Whether the first n are all zero, and all others x.
@@ -160,14 +160,20 @@ fn says(row: &[u8], text: &[u8]) -> bool {
     row.len() == text.len() && row.iter().zip(text).all(|(&r, &t)| r == said(t))
 }
 
-// `prints mine TEXT`, `prints judge TEXT`.
+// `prints mine TEXT`, `prints judge TEXT`, each with the room that its program has: much more has to be cleared for verdicts.
 fn prints(row: &[u8], input: &[u8]) -> bool {
-    let mut text = [0u8; 53040];
-    let (from, n) = match word(rest(row, 7)) {
-        b"min" => (12, text_mined::mined_text(input, &mut text)),
-        _ => (13, text_judged::judged_text(input, &mut text)),
-    };
-    says(rest(row, from), front(&text, n))
+    match word(rest(row, 7)) {
+        b"min" => {
+            let mut text = [0u8; 2169];
+            let n = text_mined::mined_text(input, &mut text);
+            says(rest(row, 12), front(&text, n))
+        }
+        _ => {
+            let mut text = [0u8; 53040];
+            let n = text_judged::judged_text(input, &mut text);
+            says(rest(row, 13), front(&text, n))
+        }
+    }
 }
 
 // A line of the sheet with what came of it.

@@ -23,6 +23,11 @@ unfoldable pub values_of : List ℕ → ℕ
 values_of [] = zero
 values_of (b ∷ t) = pick (eqb b 32) (suc (values_of t)) (values_of t)
 
+-- a line from value k on, which is its word k + 1
+unfoldable pub from_value : List ℕ → ℕ → List ℕ
+from_value [] k = []
+from_value (b ∷ t) k = pick (eqb b 32) (pick (eqb k 0) t (from_value t (k - 1))) (from_value t k)
+
 -- n values after word k, as bytes
 unfoldable pub bytes_from : ℕ → List ℕ → ℕ → List ℕ
 bytes_from zero line k = []

@@ -3,7 +3,7 @@
 
 ghost use Rattle.std.specs.Prelude.{◌≡◌};
 ghost use Rattle.std.proofs.lemmas.List.Edits.{sets};
-ghost use Rattle.bench_sheet.specs.Words.{kind_named, grown, number_of, values_of, listed};
+ghost use Rattle.bench_sheet.specs.Words.{kind_named, grown, number_of, values_of, from_value, listed};
 
 use rules::{ACTIVITY, CHOICE, LOOP, PARALLEL, SEQUENCE, SILENT};
 
@@ -61,18 +61,37 @@ pub fn values(line: &[u8]) -> usize
     line.iter().filter(|b| **b == b' ').count()
 }
 
+// A line from value k on, which is its word k + 1; nothing where it has fewer.
+#[tactic(auto, unfolding(crate::specs::Words::from_value))]
+fn from_value(line: &[u8], k: usize) -> &[u8]
+    ensures { result.now ≡ from_value line.now k }
+{
+    let mut before = k;
+    for i in 0..line.len() {
+        if line[i] == b' ' {
+            if before == 0 {
+                return &line[i + 1..];
+            }
+            before -= 1;
+        }
+    }
+    &[]
+}
+
 // Puts the values of a line as bytes from a place on, as far as there is room; the first ones are skipped.
-#[tactic(auto, using(crate::proofs::WordLaws::sets_out, crate::proofs::WordLaws::lay_end, crate::proofs::WordLaws::lay_on))]
+#[tactic(auto, using(crate::proofs::WordLaws::sets_out, crate::proofs::WordLaws::lay_end, crate::proofs::WordLaws::lay_turn, crate::proofs::WordLaws::value_next))]
 pub fn lay(line: &[u8], skip: usize, s: &mut [u8], place: usize)
     ensures { s.new ≡ sets s.old place (listed line.now skip) }
 {
-    // The place by hand: it ends with the room, as k ends with the values.
+    // The place by hand: it ends with the room, as k ends with the values. Each word is read where the one before it ended.
     let mut at = place;
+    let mut rest = from_value(line, skip);
     for k in skip..values(line) {
         if s.len() <= at {
             return;
         }
-        s[at] = (number(line, k + 1) % 256) as u8;
+        s[at] = (number(rest, 0) % 256) as u8;
+        rest = from_value(rest, 0);
         at += 1;
     }
 }
