@@ -46,7 +46,7 @@ module _ (t : List ℕ) (ih : (k : ℕ) → from_value (from_value t k) 0 ≡ fr
   next_at true (suc k) = rw (eqb-suc-zero k, eqb-suc-zero (suc k), less_one k, less_one (suc k)) (ih k)
   next_at false k = ih k
 
-pub value_after : (line : List ℕ) (k : ℕ) → from_value (from_value line k) 0 ≡ from_value line (suc k)
+value_after : (line : List ℕ) (k : ℕ) → from_value (from_value line k) 0 ≡ from_value line (suc k)
 unfolding from_value
 value_after [] k = refl
 value_after (b ∷ t) k = next_at t (value_after t) (eqb b 32) k

@@ -23,7 +23,7 @@ unfoldable pub values_of : List ℕ → ℕ
 values_of [] = zero
 values_of (b ∷ t) = pick (eqb b 32) (suc (values_of t)) (values_of t)
 
--- a line from value k on, which is its word k + 1
+-- a line from value k on, which is its word k + 1; nothing where it has fewer
 unfoldable pub from_value : List ℕ → ℕ → List ℕ
 from_value [] k = []
 from_value (b ∷ t) k = pick (eqb b 32) (pick (eqb k 0) t (from_value t (k - 1))) (from_value t k)
